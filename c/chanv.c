@@ -8,7 +8,7 @@
 
 static const char *word_of(const char *const *words, size_t count, uint32_t number)
 {
-    return number < count ? words[number] : "";
+    return number < count && words[number] != NULL ? words[number] : "";
 }
 
 #define WORD_OF(words, number) word_of(words, sizeof(words) / sizeof *(words), number)
@@ -16,23 +16,22 @@ static const char *word_of(const char *const *words, size_t count, uint32_t numb
 const char *chanv_reason_word(uint32_t reason)
 {
     static const char *const words[] = {
-        "",
-        "misaligned",
-        "outside-storage",
-        "transfer-not-allowed",
-        "invalid-code",
-        "bad-format",
-        "zero-count",
-        "data-outside",
-        "not-in-table",
-        "inhibited",
-        "store-not-lent",
-        "fetch-not-lent",
-        "short-seek",
-        "seek-outside",
-        "changes-ccw",
-        "changes-argument",
-        "weakens-mask",
+        [CHANV_REASON_MISALIGNED] = "misaligned",
+        [CHANV_REASON_OUTSIDE_STORAGE] = "outside-storage",
+        [CHANV_REASON_TRANSFER_NOT_ALLOWED] = "transfer-not-allowed",
+        [CHANV_REASON_INVALID_CODE] = "invalid-code",
+        [CHANV_REASON_BAD_FORMAT] = "bad-format",
+        [CHANV_REASON_ZERO_COUNT] = "zero-count",
+        [CHANV_REASON_DATA_OUTSIDE] = "data-outside",
+        [CHANV_REASON_NOT_IN_TABLE] = "not-in-table",
+        [CHANV_REASON_INHIBITED] = "inhibited",
+        [CHANV_REASON_STORE_NOT_LENT] = "store-not-lent",
+        [CHANV_REASON_FETCH_NOT_LENT] = "fetch-not-lent",
+        [CHANV_REASON_SHORT_SEEK] = "short-seek",
+        [CHANV_REASON_SEEK_OUTSIDE] = "seek-outside",
+        [CHANV_REASON_CHANGES_CCW] = "changes-ccw",
+        [CHANV_REASON_CHANGES_ARGUMENT] = "changes-argument",
+        [CHANV_REASON_WEAKENS_MASK] = "weakens-mask",
     };
     return WORD_OF(words, reason);
 }
@@ -40,20 +39,20 @@ const char *chanv_reason_word(uint32_t reason)
 const char *chanv_answer_word(uint32_t answer)
 {
     static const char *const words[] = {
-        "yes",
-        "no",
-        "too-many-places",
-        "out-of-memory",
-        "storage-too-large",
-        "not-a-device",
-        "not-a-mask",
-        "no-extent",
-        "extent-backwards",
-        "extent-past-device",
-        "not-a-limit",
-        "no-room",
-        "reserved-not-zero",
-        "changed-meanwhile",
+        [CHANV_YES] = "yes",
+        [CHANV_NO] = "no",
+        [CHANV_TOO_MANY_PLACES] = "too-many-places",
+        [CHANV_MEMORY] = "out-of-memory",
+        [CHANV_STORAGE_TOO_LARGE] = "storage-too-large",
+        [CHANV_NOT_A_DEVICE] = "not-a-device",
+        [CHANV_NOT_A_MASK] = "not-a-mask",
+        [CHANV_NO_EXTENT] = "no-extent",
+        [CHANV_EXTENT_BACKWARDS] = "extent-backwards",
+        [CHANV_EXTENT_PAST_DEVICE] = "extent-past-device",
+        [CHANV_NOT_A_LIMIT] = "not-a-limit",
+        [CHANV_NO_ROOM] = "no-room",
+        [CHANV_RESERVED_NOT_ZERO] = "reserved-not-zero",
+        [CHANV_CHANGED_MEANWHILE] = "changed-meanwhile",
     };
     return WORD_OF(words, answer);
 }
@@ -61,27 +60,31 @@ const char *chanv_answer_word(uint32_t answer)
 const char *chanv_refusal_word(uint32_t code)
 {
     static const char *const words[] = {
-        "",
-        "other-start",
-        "other-device",
-        "other-length",
-        "changed",
-        "mask",
-        "no-cylinder",
-        "not-fetchable",
-        "not-storable",
-        "stores-over-kept",
-        "keeps-stored-over",
-        "writes-over-kept",
-        "reserved-not-zero",
-        "reserved-in-flight",
+        [CHANV_REFUSED_OTHER_START] = "other-start",
+        [CHANV_REFUSED_OTHER_DEVICE] = "other-device",
+        [CHANV_REFUSED_OTHER_LENGTH] = "other-length",
+        [CHANV_REFUSED_CHANGED] = "changed",
+        [CHANV_REFUSED_MASK] = "mask",
+        [CHANV_REFUSED_NO_CYLINDER] = "no-cylinder",
+        [CHANV_REFUSED_NOT_FETCHABLE] = "not-fetchable",
+        [CHANV_REFUSED_NOT_STORABLE] = "not-storable",
+        [CHANV_REFUSED_STORES_OVER_KEPT] = "stores-over-kept",
+        [CHANV_REFUSED_KEEPS_STORED_OVER] = "keeps-stored-over",
+        [CHANV_REFUSED_WRITES_OVER_KEPT] = "writes-over-kept",
+        [CHANV_REFUSED_RESERVED] = "reserved-not-zero",
+        [CHANV_REFUSED_RESERVED_IN_FLIGHT] = "reserved-in-flight",
     };
     return WORD_OF(words, code);
 }
 
 const char *chanv_entered_word(uint32_t entered)
 {
-    static const char *const words[] = {"fresh", "in", "out", "search"};
+    static const char *const words[] = {
+        [CHANV_ENTERED_FRESH] = "fresh",
+        [CHANV_ENTERED_CHAIN_IN] = "in",
+        [CHANV_ENTERED_CHAIN_OUT] = "out",
+        [CHANV_ENTERED_CHAIN_SEARCH] = "search",
+    };
     return WORD_OF(words, entered);
 }
 

@@ -5,6 +5,9 @@ both: the premises of the theorem, which the header lists as THEOREM does, the m
 SUPERVISOR by their numbers; the reasons of a no, and which rest on choices of this project; the
 answers of calls; where the machine itself stores; how many commands there are; and the kit. TESTING
 counts decks, mutants, unit tests and the jobs of `model` and `peer`.
+
+Two facts are in two places of the sources, because C has to be told, and because a constant text of
+the language can't be put together of others: the numbers of the header, and lines of the usage.
 """
 
 import re
@@ -97,6 +100,27 @@ def check_answers(checks):
     checks.expect("the codes of EMBEDDING", codes, told)
 
 
+def check_numbers(checks):
+    """The library's answers and refusals have the numbers of the header, under the same names."""
+    enums = re.findall(r"(?s)enum chanv_(?:answer|refused) \{(.*?)\};", text_of(HEADER))
+    header = dict(re.findall(r"(?m)^ +CHANV_([A-Z_]+) = (\d+)", "".join(enums)))
+    source = text_of(ROOT / "crates/chanv_c/src/codes.rt")
+    library = dict(re.findall(r"const ([A-Z_]+): u32 = (\d+);", source))
+    checks.expect("how many enums have these numbers", 2, len(enums))
+    checks.expect("the numbers of the library", header, library)
+
+
+def check_usage(checks):
+    """Each line of a command's usage is one of the usage of the program."""
+    source = text_of(ROOT / "crates/chan_args/src/lines.rt")
+    usages = dict(re.findall(r'(?s)const (USAGE\w*): &str = "(.*?)";', source))
+    lines = usages.pop("USAGE").split("\n       ")
+    checks.expect("how many commands have a usage of their own", 6, len(usages))
+    for name, usage in usages.items():
+        for line in usage.split("\n       "):
+            checks.expect_that(f"a line of {name}", line in lines, line)
+
+
 def check_machine_stores(checks):
     """OUTPUT has the note on the ranges that SUPERVISOR's C asks about."""
     pairs = re.findall(r"\{(0x\w+), (0x\w+|\d+)\}", text_of(DOCS / "SUPERVISOR.md"))
@@ -149,6 +173,8 @@ def check(checks, _built):
     check_reasons(checks)
     check_choices(checks)
     check_answers(checks)
+    check_numbers(checks)
+    check_usage(checks)
     check_machine_stores(checks)
     check_counts(checks)
     check_kit(checks)

@@ -17,6 +17,7 @@ MODULE = re.compile(r"(?m)^(#\[cfg\(test\)\]\n)?mod (\w+);")
 EXPORTED = re.compile(r"pub use crate::[\w:]+::(?:\{([^}]*)\}|(\w+));")
 IMPL = re.compile(r"(?m)^impl\b(?: *<(?:[^<>]|<[^<>]*>)*>)? ([^{;]*)\{")
 FUNCTION = re.compile(r"(?m)^ *(pub |pub\(crate\) )?(?:extern +)?fn (\w+)")
+DECLARED = re.compile(r"(?m)^(?:pub |pub\(crate\) )?(?:struct|enum) (\w+)")
 CONSTANT = re.compile(r"(?m)^(?:pub |pub\(crate\) )?(?:const|static) (\w+):")
 CLAUSE = re.compile(r"\b(?:requires|(ensures))(?: (\w+))?\s*$")
 # a name, with the type or module, or the dot, before it, and the parenthesis behind it
@@ -122,11 +123,13 @@ def exported(crate):
 
 
 def items(crate):
-    """All functions and constants, as they stand. In a program those are public that say so."""
+    """All functions and constants, as they stand. In a program those are public that say so. A
+    type's own functions are of the module that declares the type, wherever they stand."""
     public, is_program = exported(crate), top(crate).name == "main.rt"
+    texts = {module: read(path) for module, path in modules(crate)}
+    homes = {name: module for module, text in texts.items() for name in DECLARED.findall(text)}
     for module, path in modules(crate):
-        text = read(path)
-        item = partial(Item, str(path.relative_to(CRATES / crate)), module)
+        text, item = texts[module], partial(Item, str(path.relative_to(CRATES / crate)))
         impls = [(it.start(), closed(text, it.end() - 1), it[1]) for it in IMPL.finditer(text)]
         for found in FUNCTION.finditer(text):
             around = [header for start, end, header in impls if start < found.start() < end]
@@ -134,11 +137,12 @@ def items(crate):
             is_public = found[1] == "pub " and (is_program or (kind or found[2]) in public)
             clauses, end = contract(text, found.end())
             whole = (found.start(), end, text[found.start() : end])
-            yield item(kind, trait, found[2], is_public, clauses, *whole)
+            home = module if trait else homes.get(kind, module)
+            yield item(home, kind, trait, found[2], is_public, clauses, *whole)
         for found in CONSTANT.finditer(text):
             end = text.index(";\n", found.end()) + 1
             whole = (found.start(), end, text[found.start() : end])
-            yield item("", "", found[1], False, None, *whole)
+            yield item(module, "", "", found[1], False, None, *whole)
 
 
 def uses(every):

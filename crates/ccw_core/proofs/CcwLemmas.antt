@@ -5,9 +5,10 @@ use Rattle.byteorder.specs.Endian.{big_bytes}
 use Rattle.byteorder.specs.Numbers.{big_number-reads_back}
 use Rattle.ccw_core.specs.Ccw.{Fields, ccw, bytes_of}
 use Rattle.ccw_core.proofs.BigEndian.{big_bytes-two, big_bytes-three, eight}
+use Rattle.ccw_core.specs.declared.ccw.TheConstants.{STORAGE_LIMIT}
 
 -- the bytes of a CCW hold the CCW
-pub ccw-bytes_of : (c : Fields) → c.address < 16777216 → c.count < 65536 → ccw (bytes_of c) 0 ≡ c
+pub ccw-bytes_of : (c : Fields) → c.address < STORAGE_LIMIT → c.count < 65536 → ccw (bytes_of c) 0 ≡ c
 unfolding ccw
 ccw-bytes_of c ha hc =
     let address = big_number-reads_back 3 c.address (c.flags ∷ c.spare ∷ big_bytes 2 c.count) ha in

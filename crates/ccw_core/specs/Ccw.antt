@@ -62,8 +62,8 @@ unfoldable pub is_invalid : Fields → Bool
 is_invalid c = c.command % 16 == 0
 
 -- the count, which may not be zero, is not zero
-unfoldable pub is_counted : Fields → Bool
-is_counted c = nat_lt 0 c.count
+unfoldable pub has_count : Fields → Bool
+has_count c = nat_lt 0 c.count
 
 -- the whole data range lies in n bytes of storage
 unfoldable pub has_data_in : ℕ → Fields → Bool

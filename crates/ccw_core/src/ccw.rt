@@ -7,6 +7,7 @@ ghost use Rattle.ccw_core.specs.Ccw as specs;
 ghost use Rattle.ccw_core.specs.Flags.{bits_of};
 ghost use Rattle.ccw_core.specs.Group.{group_of};
 ghost use Rattle.ccw_core.specs.declared.group.Group.TheVariants.{Transfer};
+ghost use Rattle.ccw_core.specs.declared.ccw.TheConstants.{STORAGE_LIMIT};
 
 use crate::flags::{CcwFlags, FlagColumn};
 use crate::group::Group;
@@ -14,6 +15,9 @@ use bitflags::Flags;
 use byteorder::{BigEndian, ByteOrder};
 use std::alloc::{AllocError, Global};
 use std::marker::Model;
+
+/// The most bytes that storage may have, since an address has 24 bits. Each address is below.
+pub const STORAGE_LIMIT: u32 = 16_777_216;
 
 /// A channel command word (CCW): the channel's instruction for one block of storage.
 ///
@@ -31,6 +35,7 @@ pub struct Ccw {
 impl Model for Ccw {
     ghost use Rattle.std.specs.Prelude.{◌<◌};
     ghost use Rattle.ccw_core.specs.Ccw.{Fields};
+    ghost use Rattle.ccw_core.specs.declared.ccw.TheConstants.{STORAGE_LIMIT};
 
     ghost Value = { Fields };
 
@@ -42,7 +47,7 @@ impl Model for Ccw {
       count = c.count;
     } };
 
-    ghost invariant = { λ c. c.address < 16777216 };
+    ghost invariant = { λ c. c.address < STORAGE_LIMIT };
 
     ghost inverse = { λ d. record {
       command = d.command;
@@ -54,16 +59,16 @@ impl Model for Ccw {
 }
 
 impl Ccw {
-    /// A CCW of these fields. It is `None` exactly if the address is 16,777,216 or more: an address
-    /// has 24 bits.
+    /// A CCW of these fields. It is `None` exactly if the address isn't below
+    /// [`STORAGE_LIMIT`].
     pub fn new(command: u8, address: u32, flags: u8, spare: u8, count: u16) -> Option<Ccw>
-        ensures found { IsSome result ↔ (address < 16777216) }
-        ensures refused { IsNone result ↔ (16777216 ≤ address) }
+        ensures found { IsSome result ↔ (address < STORAGE_LIMIT) }
+        ensures refused { IsNone result ↔ (STORAGE_LIMIT ≤ address) }
         ensures value { let c : Fields = record
             { command = command; address = address; flags = flags; spare = spare; count = count } in
             IfSome result (λ r. r ≡ c) }
     {
-        if address < 0x100_0000 {
+        if address < STORAGE_LIMIT {
             Some(Ccw {
                 command,
                 address,
@@ -83,10 +88,10 @@ impl Ccw {
         self.command
     }
 
-    /// The data address, bytes 1 to 3, below 16,777,216.
+    /// The data address, bytes 1 to 3, below [`STORAGE_LIMIT`].
     pub fn address(&self) -> u32
         ensures value { result ≡ self.now.address }
-        ensures below { result < 16777216 }
+        ensures below { result < STORAGE_LIMIT }
     {
         self.address
     }

@@ -18,7 +18,7 @@ mod storage;
 mod watched;
 
 pub use crate::areas::{Area, covers, gap_among};
-pub use crate::ccw::Ccw;
+pub use crate::ccw::{Ccw, STORAGE_LIMIT};
 pub use crate::flags::CcwFlags;
 pub use crate::group::Group;
 pub use crate::storage::{Storage, TooLarge};

@@ -4,14 +4,12 @@ ghost use Rattle.std.specs.Prelude.{◌≡◌, ◌≤◌, ◌<◌, ◌↔◌, �
 ghost use Rattle.std.specs.Prelude.{option_copied};
 ghost use Rattle.ccw_core.specs.Ccw.{byte};
 ghost use Rattle.ccw_core.specs.Storage.{ccw_at, range_at};
+ghost use Rattle.ccw_core.specs.declared.ccw.TheConstants.{STORAGE_LIMIT};
 
-use crate::ccw::Ccw;
+use crate::ccw::{Ccw, STORAGE_LIMIT};
 use thiserror::Error;
 
-/// The most bytes that storage may have, 16,777,216: addresses have 24 bits.
-const STORAGE_LIMIT: usize = 16_777_216;
-
-/// The error for more than 16,777,216 bytes of storage.
+/// The error for more than [`STORAGE_LIMIT`] bytes of storage.
 #[derive(Clone, Copy, PartialEq, Eq, Debug, Error)]
 #[error("storage is larger than 16,777,216 bytes")]
 pub struct TooLarge;
@@ -20,31 +18,31 @@ pub struct TooLarge;
 #[derive(Clone, Copy, PartialEq, Eq, Debug)]
 pub struct Storage<'a> {
     bytes: &'a [u8],
-    pub ghost small: { length bytes.now ≤ 16777216 },
+    pub ghost small: { length bytes.now ≤ STORAGE_LIMIT },
     pub ghost fits: { (a : ℕ) → byte bytes.now a < 256 },
 }
 
 impl<'a> Storage<'a> {
     ghost use Rattle.ccw_core.specs.Held.{bytes_held};
+    ghost use Rattle.ccw_core.specs.declared.ccw.TheConstants.{STORAGE_LIMIT};
 
-    /// Storage of these bytes. `TooLarge` comes exactly above 16,777,216 bytes, since addresses
-    /// have 24 bits.
+    /// Storage of these bytes. `TooLarge` comes exactly above [`STORAGE_LIMIT`] bytes.
     pub fn new(bytes: &'a [u8]) -> Result<Storage<'a>, TooLarge>
         ensures whole { IfOk result (λ s. bytes_held s ≡ bytes.entry.now) }
-        ensures ok { IsOk result ↔ (length bytes.entry.now ≤ 16777216) }
-        ensures large { IsErr result ↔ (16777216 < length bytes.entry.now) }
+        ensures ok { IsOk result ↔ (length bytes.entry.now ≤ STORAGE_LIMIT) }
+        ensures large { IsErr result ↔ (STORAGE_LIMIT < length bytes.entry.now) }
     {
-        if bytes.len() <= STORAGE_LIMIT {
+        if bytes.len() <= STORAGE_LIMIT as usize {
             Ok(Storage { bytes })
         } else {
             Err(TooLarge)
         }
     }
 
-    /// How many bytes storage has, 16,777,216 at the most.
+    /// How many bytes storage has, [`STORAGE_LIMIT`] at the most.
     pub fn len(&self) -> u32
         ensures value { result ≡ length (bytes_held self.now) }
-        ensures below { result ≤ 16777216 }
+        ensures below { result ≤ STORAGE_LIMIT }
     {
         self.bytes.len() as u32
     }

@@ -51,9 +51,9 @@ pub one_for_two : (x y r : Area) (b : ℕ) → (IsByteOf r b → IsByteOf x b �
 one_for_two x y r b f g h = search (rules, lies_in-cases, lies_in-first, lies_in-rest, both_ways, lies_in-nil)
 
 -- in another order
-pub bytes_moved : (xs ys : List Area) (b : ℕ) → IsPermutation xs ys → lies_in xs b ≡ lies_in ys b
+pub lies_in-IsPermutation : (xs ys : List Area) (b : ℕ) → IsPermutation xs ys → lies_in xs b ≡ lies_in ys b
 unfolding lies_in
-bytes_moved xs ys b p = list_any-IsPermutation (λ x. nat_le x.start b && nat_lt b (x.start + x.len)) xs ys p
+lies_in-IsPermutation xs ys b p = list_any-IsPermutation (λ x. nat_le x.start b && nat_lt b (x.start + x.len)) xs ys p
 
 -- ---- the run that grows
 
@@ -211,7 +211,7 @@ exactly_low n areas merged h low = ends_low n merged h.merged (λ b lies. lies_l
 pub exactly_sorted : (xs sorted given merged : List Area) → IsPermutation xs sorted → given ≡ sorted
     → IsMerged merged → HaveSameBytes merged given → AreExactly (λ b. lies_in xs b ≡ true) merged
 exactly_sorted xs sorted given merged p e m h =
-    let same : HaveSameBytes merged xs = λ b. h b ∙ ap (λ z. lies_in z b) e ∙ sym (bytes_moved xs sorted b p) in
+    let same : HaveSameBytes merged xs = λ b. h b ∙ ap (λ z. lies_in z b) e ∙ sym (lies_in-IsPermutation xs sorted b p) in
     record { merged = m; bytes = λ b. ((λ k. sym (same b) ∙ k), λ k. same b ∙ k) }
 
 -- the bytes of two lists, merged

@@ -13,7 +13,7 @@ use Rattle.clap.specs.Walk.{bundle_step, finished, has_long, has_short, idle}
 use Rattle.clap.specs.Walk.{long_or_other, nothing_held, plain, settled, short_or_plain}
 use Rattle.clap.specs.Walk.{subcommand_met, subcommand_or_other, to_positional, trailing, value}
 use Rattle.clap.specs.Walk.{walk, walk_from, walked}
-use Rattle.chan_args.specs.CommandLine.{IsKnown, IsAccepted}
+use Rattle.chan_args.specs.CommandLine.{IsKnownCommand, IsAccepted}
 use Rattle.chan_args.specs.Lines.{chanv}
 use Rattle.chan_args.proofs.Names.{if◌then◌else◌, App, ErrorKind, Kinds, Rule, Shape, append-nil}
 use Rattle.chan_args.proofs.Names.{append_assoc, argument_words, built, bytes_eq, bytes_eq-Decides}
@@ -71,12 +71,6 @@ passed_on rules names w p [] =
 passed_on rules names w p (word ∷ rest) =
     passed_on rules names w (p.0, p.1 ++ word ∷ []) rest
     ∙ ap (λ ws. record w { stopped = Some (p.0, ws) }) (append_assoc p.1 (word ∷ []) rest)
-
--- what is wrong where the words of a command have ended
-abbrev pub end_kinds : Shape → Walk → Kinds
-end_kinds s w = or_else (settle_fault s.rules s.args_override_self w.held)
-    (or_else (defaults_fault (settled s.rules w.held).rows s.rules)
-    (check_fault s (finished s.rules w.held) false))
 
 -- ---- flags that ask
 
@@ -216,10 +210,10 @@ top_asks = record {
 -- what a name other than `help` leads to is known
 named_is_known : (name : Text) (words : List Text)
     → other_fault app.top (Some name) name nothing_held ≡ []
-    → entered_fault app (Some (name, words)) ≡ [] → IsKnown (entered app (Some (name, words)))
+    → entered_fault app (Some (name, words)) ≡ [] → IsKnownCommand (entered app (Some (name, words)))
 named_is_known name words no_help = found_by
     (λ o. option_map_or (λ s. level_fault s [] nothing_held words false []) o [] ≡ []
-    → IsKnown (option_map (λ s. rows_at s words) o)) (λ s. answers_to name (label_of s))
+    → IsKnownCommand (option_map (λ s. rows_at s words) o)) (λ s. answers_to name (label_of s))
     (λ _. inl refl) app.subs
     (also (λ _ _. inr (inl (actions.Verify, refl)))
     (also (λ _ _. inr (inl (actions.List false, refl)))
@@ -241,7 +235,7 @@ abbrev LeadsToKnown : List Text → Walk → Type 0
 LeadsToKnown words w =
     let end = fold (walked app.top.rules (names_of app)) w words in
     walk_fault app.top (names_of app) w words ≡ [] → entered_fault app end.stopped ≡ []
-    → IsKnown (entered app end.stopped)
+    → IsKnownCommand (entered app end.stopped)
 
 leads_to_known : (is_trailing : Bool) (words : List Text)
     → LeadsToKnown words (at None 1 is_trailing)
@@ -258,11 +252,11 @@ leads_to_known is_trailing (word ∷ rest) none below =
     command name met no_help none =
         let stop = ap (λ (w : Walk). w.stopped)
         (passed_on app.top.rules (names_of app) (at None 1 false) (name, []) rest) in
-        subst (λ stop. entered_fault app stop ≡ [] → IsKnown (entered app stop)) (sym stop)
+        subst (λ stop. entered_fault app stop ≡ [] → IsKnownCommand (entered app stop)) (sym stop)
         (named_is_known name rest no_help)
 
 -- what words that are taken name is known
-pub taken_is_known : (words : List Text) → IsAccepted words → IsKnown (subcommand_of chanv words)
+pub taken_is_known : (words : List Text) → IsAccepted words → IsKnownCommand (subcommand_of chanv words)
 taken_is_known words taken =
     let after = argument_words chanv words in
     let level = or_else_none

@@ -12,7 +12,7 @@ use Rattle.chan_args.specs.declared.command_line.Request.TheVariants.{Show, Run,
 use Rattle.chan_args.specs.declared.command_line.Request.TheVariants.{Explain, Find, Grants, Words}
 use Rattle.chan_args.specs.declared.command_line.Request.TheVariants.{Help, Version, Fault}
 use Rattle.chan_args.specs.declared.command_line.Request.TheVariants.{NoCcw, NoCommand, NoMemory}
-use Rattle.chan_args.specs.declared.command_line.Request.TheVariants.{AllBesideOf, ExplainFlags}
+use Rattle.chan_args.specs.declared.command_line.Request.TheVariants.{AllWithOf, ExplainFlags}
 use Rattle.chan_args.specs.declared.command_line.Request.TheVariants.{ExplainOffence, ShowNamed}
 use Rattle.chan_args.specs.CommandWords.{IsStandardInput, files_in, texts_of}
 use Rattle.chan_args.specs.ImageLine.{SaysImage, grant_fault, is_flagged, is_met, texts_in}
@@ -27,11 +27,11 @@ abbrev pub is_help_flag : Text → Bool
 is_help_flag word = bytes_eq word (codes "--help") || bytes_eq word (codes "-h")
 
 -- the words as clap reads them: behind `help`, a call for help says nothing more
-abbrev pub understood : List Text → List Text
-understood (program ∷ word ∷ flag ∷ []) =
+abbrev pub words_as_read : List Text → List Text
+words_as_read (program ∷ word ∷ flag ∷ []) =
     if bytes_eq word (codes "help") && is_help_flag flag then program ∷ word ∷ []
     else program ∷ word ∷ flag ∷ []
-understood words = words
+words_as_read words = words
 
 -- the word may be the flags of a listing, of which the first is off
 abbrev pub may_be_flags : Text → Bool
@@ -81,73 +81,74 @@ action_name actions.Graph = codes "graph"
 action_name (actions.Needs deck) = codes "needs"
 
 -- it met no command, or that of an action, or `show`, `deck`, `explain` or `find`
-abbrev pub IsKnown : Option (Text × List Row) → Type 0
-IsKnown met =
+abbrev pub IsKnownCommand : Option (Text × List Row) → Type 0
+IsKnownCommand met =
     (name_met met ≡ None) ⊎ (((action : Action) × (name_met met ≡ Some (action_name action)))
     ⊎ ((name_met met ≡ Some (codes "show"))
     ⊎ ((name_met met ≡ Some (codes "deck")) ⊎ ((name_met met ≡ Some (codes "explain"))
     ⊎ (name_met met ≡ Some (codes "find"))))))
 
 -- the command asks for this action; no command asks to verify
-abbrev pub IsFor : Option Text → Action → Type 0
-IsFor None action = action ≡ actions.Verify
-IsFor (Some name) action = name ≡ action_name action
+abbrev pub IsActionOf : Option Text → Action → Type 0
+IsActionOf None action = action ≡ actions.Verify
+IsActionOf (Some name) action = name ≡ action_name action
 
 -- what an explanation tells where no offence is asked for by its address
 abbrev pub explained : Bool → Explained
 explained all = if all then tells.All else tells.First
 
 -- the action is the one that the options ask for that were met
-abbrev pub IsAsMet : Action → List Row → Type 0
-IsAsMet (actions.List wide) rows = wide ≡ is_flagged (codes "wide") rows
-IsAsMet (actions.Why told) rows =
+abbrev pub IsActionOfOptions : Action → List Row → Type 0
+IsActionOfOptions (actions.List wide) rows = wide ≡ is_flagged (codes "wide") rows
+IsActionOfOptions (actions.Why told) rows =
     (told ≡ explained (is_flagged (codes "all") rows)) × (first_of (codes "of") rows ≡ None)
-IsAsMet (actions.Needs deck) rows = deck ≡ is_flagged (codes "deck") rows
-IsAsMet _ rows = Unit {0}
+IsActionOfOptions (actions.Needs deck) rows = deck ≡ is_flagged (codes "deck") rows
+IsActionOfOptions _ rows = Unit {0}
 
 -- the request is to run over these files
-abbrev pub RunsOver : Action → List Text → Request → Type 0
-RunsOver action files (Run a) = (a ≡ action) × IsStandardInput files
-RunsOver action files (RunNamed a names) =
+abbrev pub IsRunRequest : Action → List Text → Request → Type 0
+IsRunRequest action files (Run a) = (a ≡ action) × IsStandardInput files
+IsRunRequest action files (RunNamed a names) =
     (a ≡ action) × (¬ IsStandardInput files) × (texts_of names.items ≡ files)
-RunsOver action files _ = ⊥
+IsRunRequest action files _ = ⊥
 
 -- the request is to make the deck of what was met, or says why its options don't say one job
-abbrev pub MakesDeck : List Row → Request → Type 0
-MakesDeck rows (Image asked) = (grant_fault rows ≡ None) × SaysImage rows asked
-MakesDeck rows (Grants fault) = grant_fault rows ≡ Some fault
-MakesDeck rows _ = ⊥
+abbrev pub IsDeckRequest : List Row → Request → Type 0
+IsDeckRequest rows (Image asked) = (grant_fault rows ≡ None) × SaysImage rows asked
+IsDeckRequest rows (Grants fault) = grant_fault rows ≡ Some fault
+IsDeckRequest rows _ = ⊥
 
 -- what was met asks for this request
-abbrev pub AsksFor : Option (Text × List Row) → Request → Type 0
-AsksFor met (Show word) =
+abbrev pub IsRequestOf : Option (Text × List Row) → Request → Type 0
+IsRequestOf met (Show word) =
     (name_met met ≡ Some (codes "show")) × (ccw_met met ≡ Some word.now)
     × (is_flagged (codes "name") (rows_met met) ≡ false)
-AsksFor met (ShowNamed word) =
+IsRequestOf met (ShowNamed word) =
     (name_met met ≡ Some (codes "show")) × (ccw_met met ≡ Some word.now)
     × (is_flagged (codes "name") (rows_met met) ≡ true)
-AsksFor met NoCcw = (name_met met ≡ Some (codes "show")) × (ccw_met met ≡ None)
-AsksFor met (Run a) =
-    IsFor (name_met met) a × RunsOver a (files_met met) (Run a) × IsAsMet a (rows_met met)
-AsksFor met (RunNamed a names) =
-    IsFor (name_met met) a × RunsOver a (files_met met) (RunNamed a names)
-    × IsAsMet a (rows_met met)
-AsksFor met (Image asked) =
-    (name_met met ≡ Some (codes "deck")) × MakesDeck (rows_met met) (Image asked)
-AsksFor met (Find asked) = (name_met met ≡ Some (codes "find")) × SaysImage (rows_met met) asked
-AsksFor met (Grants fault) =
-    (name_met met ≡ Some (codes "deck")) × MakesDeck (rows_met met) (Grants fault)
-AsksFor met (ExplainOffence address names) =
+IsRequestOf met NoCcw = (name_met met ≡ Some (codes "show")) × (ccw_met met ≡ None)
+IsRequestOf met (Run a) =
+    IsActionOf (name_met met) a × IsRunRequest a (files_met met) (Run a)
+    × IsActionOfOptions a (rows_met met)
+IsRequestOf met (RunNamed a names) =
+    IsActionOf (name_met met) a × IsRunRequest a (files_met met) (RunNamed a names)
+    × IsActionOfOptions a (rows_met met)
+IsRequestOf met (Image asked) =
+    (name_met met ≡ Some (codes "deck")) × IsDeckRequest (rows_met met) (Image asked)
+IsRequestOf met (Find asked) = (name_met met ≡ Some (codes "find")) × SaysImage (rows_met met) asked
+IsRequestOf met (Grants fault) =
+    (name_met met ≡ Some (codes "deck")) × IsDeckRequest (rows_met met) (Grants fault)
+IsRequestOf met (ExplainOffence address names) =
     (name_met met ≡ Some (codes "why")) × (first_of (codes "of") (rows_met met) ≡ Some address.now)
     × (texts_of names.items ≡ files_met met) × (is_flagged (codes "all") (rows_met met) ≡ false)
-AsksFor met AllBesideOf =
+IsRequestOf met AllWithOf =
     (name_met met ≡ Some (codes "why")) × (is_met (codes "of") (rows_met met) ≡ true)
     × (is_flagged (codes "all") (rows_met met) ≡ true)
-AsksFor met (Explain words) =
+IsRequestOf met (Explain words) =
     (name_met met ≡ Some (codes "explain")) × (texts_of words.items ≡ words_asked met)
     × (words_asked met ≢ [])
-AsksFor met Words = (name_met met ≡ Some (codes "explain")) × (words_asked met ≡ [])
-AsksFor met _ = ⊥
+IsRequestOf met Words = (name_met met ≡ Some (codes "explain")) × (words_asked met ≡ [])
+IsRequestOf met _ = ⊥
 
 -- what each answer says of the words
 abbrev pub IsAnswerTo : List Text → Request → Type 0
@@ -162,4 +163,4 @@ IsAnswerTo words (Fault e) =
     × IsAmong (kind_of e) (fault_of chanv words)
 IsAnswerTo words NoMemory = Unit {0}
 IsAnswerTo words (ExplainFlags flags) = flags_asked words ≡ Some flags.now
-IsAnswerTo words request = IsAccepted words × AsksFor (subcommand_of chanv words) request
+IsAnswerTo words request = IsAccepted words × IsRequestOf (subcommand_of chanv words) request

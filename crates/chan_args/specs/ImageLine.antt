@@ -7,12 +7,13 @@ use Rattle.chan_args.specs.CommandWords.{file_in, texts_of}
 use Rattle.chan_args.specs.declared.image_command.ImageRequest.{ImageRequest}
 use Rattle.chan_args.specs.declared.image_words.ImageWords.{ImageWords}
 use Rattle.chan_args.specs.declared.image_words.GrantFault.{GrantFault}
-use Rattle.chan_args.specs.declared.image_words.GrantFault.TheVariants.{BesideLeast, BesideOpen}
+use Rattle.chan_args.specs.declared.image_words.GrantFault.TheVariants.{WithLeast, WithOpen}
 use Rattle.chan_args.specs.declared.image_words.GrantFault.TheVariants.{NoExtent}
-use Rattle.chan_args.specs.declared.image_words.AskedJob.{AskedJob}
-use Rattle.chan_args.specs.declared.image_words.AskedJob.TheVariants as jobs
+use Rattle.chan_args.specs.declared.image_words.RequestedJob.{RequestedJob}
+use Rattle.chan_args.specs.declared.image_words.RequestedJob.TheVariants as jobs
 use Rattle.chan_args.specs.declared.image_words.ImageOption.{ImageOption}
 use Rattle.chan_args.specs.declared.image_words.ImageOption.TheVariants as options
+use Rattle.chan_args.specs.declared.image_command.TheConstants.{ALL_CYLINDERS}
 
 -- the text that clap met for an option, or the usual one
 abbrev pub text_or : Text → Text → List Row → Text
@@ -39,8 +40,8 @@ abbrev pub is_open : List Row → Bool
 is_open rows = is_flagged (codes "open") rows
 
 -- the job that is asked for
-abbrev pub asked_job : List Row → AskedJob
-asked_job rows =
+abbrev pub requested_job : List Row → RequestedJob
+requested_job rows =
     if is_least rows then jobs.Least else (if is_open rows then jobs.Open else jobs.Named)
 
 -- the first option that grants something of its own
@@ -52,26 +53,26 @@ granting_option rows =
     else (if is_met (codes "store") rows then Some options.Store else None)))
 
 -- the first option that grants something beside the least job
-abbrev pub beside_least : List Row → Option GrantFault
-beside_least rows =
-    if is_open rows then Some (BesideLeast options.Open)
-    else option_map (λ option. BesideLeast option) (granting_option rows)
+abbrev pub option_with_least : List Row → Option GrantFault
+option_with_least rows =
+    if is_open rows then Some (WithLeast options.Open)
+    else option_map (λ option. WithLeast option) (granting_option rows)
 
 -- the first one beside the open job
-abbrev pub beside_open : List Row → Option GrantFault
-beside_open rows = option_map (λ option. BesideOpen option) (granting_option rows)
+abbrev pub option_with_open : List Row → Option GrantFault
+option_with_open rows = option_map (λ option. WithOpen option) (granting_option rows)
 
 -- why the options don't say one job, if they don't: something is granted beside the least job or
 -- the open job, or neither an extent nor one of these is asked for
 abbrev pub grant_fault : List Row → Option GrantFault
 grant_fault rows =
-    if is_least rows then beside_least rows
-    else (if is_open rows then beside_open rows
+    if is_least rows then option_with_least rows
+    else (if is_open rows then option_with_open rows
     else (if is_met (codes "extent") rows then None else Some NoExtent))
 
 -- the texts of the extents; of all cylinders where there is none
 abbrev pub extents_or_all : List Text → List Text
-extents_or_all [] = codes "0-202" ∷ []
+extents_or_all [] = ALL_CYLINDERS.now ∷ []
 extents_or_all (text ∷ texts) = text ∷ texts
 
 -- the texts are those of the options, the usual ones where an option isn't given
@@ -85,7 +86,7 @@ pub record SaysOptions (rows : List Row) (w : ImageWords) : Type 0 where
   pub store : texts_of w.store.items ≡ texts_in (codes "store") rows
   pub at : w.at.now ≡ text_or (codes "at") (codes "0") rows
   pub storage : option_map (λ text. text.now) w.storage ≡ first_of (codes "storage") rows
-  pub job : w.job ≡ asked_job rows
+  pub job : w.job ≡ requested_job rows
 
 -- the request has these texts, the file, and whether no device is named
 pub record SaysImage (rows : List Row) (r : ImageRequest) : Type 0 where

@@ -45,14 +45,14 @@ chanv =
     bare_program table.LINES.now
 
 -- the same of a word and of a line that the code has at hand
-abbrev pub WordRow : Type 0
-WordRow = Bor Text × Given × Bor Text × Bor Text
+abbrev pub WordEntry : Type 0
+WordEntry = Bor Text × Given × Bor Text × Bor Text
 
-abbrev pub rule_in : WordRow → Rule
+abbrev pub rule_in : WordEntry → Rule
 rule_in word = rule_given word.1 word.0.now
 
-abbrev pub LineRow : Type 0
-LineRow = Bor Text × Bor Text × Bor Text × Bor (List WordRow) × Bor Text
+abbrev pub LineEntry : Type 0
+LineEntry = Bor Text × Bor Text × Bor Text × Bor (List WordEntry) × Bor Text
 
-abbrev pub line_in : LineRow → App
+abbrev pub line_in : LineEntry → App
 line_in line = with_words rule_in (new_app line.0.now) line.3.now

@@ -2,13 +2,12 @@
 
 ghost use Rattle.std.specs.Prelude.{◌≡◌, ◌↔◌, IfErr, IfOk, IsTrue, OnOk, Some, codes, map};
 ghost use Rattle.std.specs.Prelude.{option_map, string_bytes};
-ghost use Rattle.clap.specs.Words.{HasKind, IsAmong, fault_of, found_of, kind_of};
-ghost use Rattle.clap.specs.Words.{rows_of};
-ghost use Rattle.clap.specs.declared.error.kind.ErrorKind.TheVariants.{InvalidSubcommand};
+ghost use Rattle.clap.specs.Words.{HasKind, IsAmong, fault_of, found_of, kind_of, rows_of};
 ghost use Rattle.clap.specs.Words.{subcommand_of, subcommand_rows_of};
-ghost use Rattle.chan_args.specs.CommandLine.{AsksFor, IsAnswerTo, IsKnown, IsAccepted};
-ghost use Rattle.chan_args.specs.CommandLine.{MakesDeck, RunsOver, flags_asked, may_be_flags};
-ghost use Rattle.chan_args.specs.CommandLine.{is_help_flag, understood};
+ghost use Rattle.clap.specs.declared.error.kind.ErrorKind.TheVariants.{InvalidSubcommand};
+ghost use Rattle.chan_args.specs.CommandLine.{IsRequestOf, IsAnswerTo, IsKnownCommand, IsAccepted};
+ghost use Rattle.chan_args.specs.CommandLine.{IsDeckRequest, IsRunRequest, flags_asked};
+ghost use Rattle.chan_args.specs.CommandLine.{may_be_flags, is_help_flag, words_as_read};
 ghost use Rattle.chan_args.specs.Lines.{chanv};
 ghost use Rattle.chan_args.specs.CommandWords.{IsStandardInput, files_in, texts_of};
 
@@ -45,7 +44,7 @@ pub enum Request<'a> {
     /// these, or of standard input if there is none.
     ExplainOffence(&'a str, Vec<&'a str>),
     /// Nothing: both each cause and the offence at an address are asked for.
-    AllBesideOf,
+    AllWithOf,
     /// To say what a word means, which may have blanks between its parts.
     Explain(Vec<&'a str>),
     /// To say what the flags of a listing mean, which begin like an option.
@@ -68,7 +67,8 @@ pub enum Request<'a> {
 /// What the words ask for, or why clap doesn't take them.
 fn asked<'a>(alloc: Global, words: &'a [String]) -> Result<Request<'a>, Error>
     ensures taken { OnOk result (IsAccepted (map string_bytes words.entry.now)) }
-    ensures asked { IfOk result (AsksFor (subcommand_of chanv (map string_bytes words.entry.now))) }
+    ensures asked { IfOk result
+        (IsRequestOf (subcommand_of chanv (map string_bytes words.entry.now))) }
     ensures err { IfErr result (HasKind (fault_of chanv (map string_bytes words.entry.now))) }
 {
     let matches = command(alloc)?.try_get_matches_from(words)?;
@@ -77,8 +77,8 @@ fn asked<'a>(alloc: Global, words: &'a [String]) -> Result<Request<'a>, Error>
 
 /// The request for the command that clap met, or for `verify` if it met none.
 fn request_of<'a>(alloc: Global, matches: &ArgMatches<'a>) -> Result<Request<'a>, AllocError>
-    requires { IsKnown (subcommand_rows_of matches.now) }
-    ensures { IfOk result (AsksFor (subcommand_rows_of matches.now)) }
+    requires { IsKnownCommand (subcommand_rows_of matches.now) }
+    ensures { IfOk result (IsRequestOf (subcommand_rows_of matches.now)) }
 {
     match matches.subcommand() {
         Some((name, inner)) => request_named(alloc, name, inner),
@@ -92,8 +92,8 @@ fn request_named<'a>(
     name: &str,
     matches: &ArgMatches<'a>,
 ) -> Result<Request<'a>, AllocError>
-    requires { IsKnown (Some (name.now, rows_of (found_of matches.now))) }
-    ensures { IfOk result (AsksFor (Some (name.now, rows_of (found_of matches.now)))) }
+    requires { IsKnownCommand (Some (name.now, rows_of (found_of matches.now))) }
+    ensures { IfOk result (IsRequestOf (Some (name.now, rows_of (found_of matches.now)))) }
 {
     match name {
         "show" => Ok(show_request(matches)),
@@ -110,7 +110,7 @@ fn request_named<'a>(
 
 /// The request to show the word that clap met as the CCW.
 fn show_request<'a>(matches: &ArgMatches<'a>) -> Request<'a>
-    ensures { AsksFor (Some (codes "show", rows_of (found_of matches.now))) result }
+    ensures { IsRequestOf (Some (codes "show", rows_of (found_of matches.now))) result }
 {
     match text_met(matches, "CCW") {
         Some(word) if is_flagged(matches, "name") => Request::ShowNamed(word),
@@ -121,7 +121,7 @@ fn show_request<'a>(matches: &ArgMatches<'a>) -> Request<'a>
 
 /// The request of `explain WORD`, or of `explain` alone.
 fn explain_request<'a>(alloc: Global, matches: &ArgMatches<'a>) -> Result<Request<'a>, AllocError>
-    ensures { IfOk result (AsksFor (Some (codes "explain", rows_of (found_of matches.now)))) }
+    ensures { IfOk result (IsRequestOf (Some (codes "explain", rows_of (found_of matches.now)))) }
 {
     let words = texts_met(alloc, matches, "WORD")?;
     if words.is_empty() {
@@ -132,7 +132,7 @@ fn explain_request<'a>(alloc: Global, matches: &ArgMatches<'a>) -> Result<Reques
 
 /// The request to list the places of the decks that clap met.
 fn list_request<'a>(alloc: Global, matches: &ArgMatches<'a>) -> Result<Request<'a>, AllocError>
-    ensures { IfOk result (AsksFor (Some (codes "list", rows_of (found_of matches.now)))) }
+    ensures { IfOk result (IsRequestOf (Some (codes "list", rows_of (found_of matches.now)))) }
 {
     let wide = is_flagged(matches, "wide");
     request_over(alloc, Action::List { wide }, matches)
@@ -140,7 +140,7 @@ fn list_request<'a>(alloc: Global, matches: &ArgMatches<'a>) -> Result<Request<'
 
 /// The request to say what the programs of the decks need that clap met.
 fn needs_request<'a>(alloc: Global, matches: &ArgMatches<'a>) -> Result<Request<'a>, AllocError>
-    ensures { IfOk result (AsksFor (Some (codes "needs", rows_of (found_of matches.now)))) }
+    ensures { IfOk result (IsRequestOf (Some (codes "needs", rows_of (found_of matches.now)))) }
 {
     let deck = is_flagged(matches, "deck");
     request_over(alloc, Action::Needs { deck }, matches)
@@ -148,11 +148,11 @@ fn needs_request<'a>(alloc: Global, matches: &ArgMatches<'a>) -> Result<Request<
 
 /// The request to explain the verdicts on the decks that clap met, or the offences at an address.
 fn why_request<'a>(alloc: Global, matches: &ArgMatches<'a>) -> Result<Request<'a>, AllocError>
-    ensures { IfOk result (AsksFor (Some (codes "why", rows_of (found_of matches.now)))) }
+    ensures { IfOk result (IsRequestOf (Some (codes "why", rows_of (found_of matches.now)))) }
 {
     let all = is_flagged(matches, "all");
     match text_met(matches, "of") {
-        Some(_) if all => Ok(Request::AllBesideOf),
+        Some(_) if all => Ok(Request::AllWithOf),
         Some(address) => {
             let files = texts_met(alloc, matches, "FILE")?;
             Ok(Request::ExplainOffence(address, files))
@@ -164,7 +164,7 @@ fn why_request<'a>(alloc: Global, matches: &ArgMatches<'a>) -> Result<Request<'a
 
 /// The request to make a deck of what clap met.
 fn deck_request<'a>(alloc: Global, matches: &ArgMatches<'a>) -> Result<Request<'a>, AllocError>
-    ensures { IfOk result (MakesDeck (rows_of (found_of matches.now))) }
+    ensures { IfOk result (IsDeckRequest (rows_of (found_of matches.now))) }
 {
     match grant_fault(matches) {
         Some(fault) => Ok(Request::Grants(fault)),
@@ -174,7 +174,7 @@ fn deck_request<'a>(alloc: Global, matches: &ArgMatches<'a>) -> Result<Request<'
 
 /// The request to find the programs in what clap met.
 fn search_request<'a>(alloc: Global, matches: &ArgMatches<'a>) -> Result<Request<'a>, AllocError>
-    ensures { IfOk result (AsksFor (Some (codes "find", rows_of (found_of matches.now)))) }
+    ensures { IfOk result (IsRequestOf (Some (codes "find", rows_of (found_of matches.now)))) }
 {
     Ok(Request::Find(image_request(alloc, matches)?))
 }
@@ -185,7 +185,7 @@ fn request_over<'a>(
     action: Action,
     matches: &ArgMatches<'a>,
 ) -> Result<Request<'a>, AllocError>
-    ensures { IfOk result (RunsOver action (files_in (rows_of (found_of matches.now)))) }
+    ensures { IfOk result (IsRunRequest action (files_in (rows_of (found_of matches.now)))) }
 {
     let files = texts_met(alloc, matches, "FILE")?;
     if is_standard_input(files.as_slice()) {
@@ -206,8 +206,8 @@ fn is_standard_input(files: &[&str]) -> bool
 }
 
 /// The words as clap reads them: a call for the help of `help` is one for help.
-fn understood<'a>(words: &'a [String]) -> &'a [String]
-    ensures { map string_bytes result.now ≡ understood (map string_bytes words.entry.now) }
+fn words_as_read<'a>(words: &'a [String]) -> &'a [String]
+    ensures { map string_bytes result.now ≡ words_as_read (map string_bytes words.entry.now) }
 {
     match words {
         [_, help, flag] if help.as_str() == "help" && is_help_flag(flag.as_str()) => &words[..2],
@@ -265,9 +265,9 @@ fn no_command<'a>(words: &'a [String], error: Error) -> Request<'a>
 /// `NoMemory` may come in place of each.
 #[inline(never)]
 pub fn read_request<'a>(alloc: Global, words: &'a [String]) -> Request<'a>
-    ensures answer { IsAnswerTo (understood (map string_bytes words.entry.now)) result }
+    ensures answer { IsAnswerTo (words_as_read (map string_bytes words.entry.now)) result }
 {
-    let words = understood(words);
+    let words = words_as_read(words);
     if let Some(flags) = flags_asked(words) {
         return Request::ExplainFlags(flags);
     }

@@ -3,14 +3,17 @@
 ghost use Rattle.std.specs.Prelude.{◌≡◌, codes, IfOk, option_map};
 ghost use Rattle.clap.specs.Words.{found_of, rows_of};
 ghost use Rattle.chan_args.specs.CommandWords.{file_in, texts_of};
-ghost use Rattle.chan_args.specs.ImageLine.{SaysImage, SaysOptions, asked_job, beside_least};
-ghost use Rattle.chan_args.specs.ImageLine.{beside_open, extents_or_all, grant_fault};
-ghost use Rattle.chan_args.specs.ImageLine.{granting_option, texts_in};
+ghost use Rattle.chan_args.specs.ImageLine.{SaysImage, SaysOptions, requested_job};
+ghost use Rattle.chan_args.specs.ImageLine.{option_with_least, option_with_open, extents_or_all};
+ghost use Rattle.chan_args.specs.ImageLine.{grant_fault, granting_option, texts_in};
 
-use crate::image_words::{AskedJob, GrantFault, ImageOption, ImageWords};
+use crate::image_words::{GrantFault, ImageOption, ImageWords, RequestedJob};
 use crate::words_met::{is_flagged, text_met, text_or, texts_met};
 use clap::ArgMatches;
 use std::alloc::{AllocError, Global};
+
+/// The cylinders of an image without an extent: all of the device's.
+const ALL_CYLINDERS: &str = "0-202";
 
 /// The parts of a deck: the texts of the options, and the file that has the image.
 #[derive(Drop)]
@@ -34,15 +37,15 @@ fn file<'a>(matches: &ArgMatches<'a>) -> Option<&'a str>
 }
 
 /// The job that is asked for.
-fn asked_job(matches: &ArgMatches<'_>) -> AskedJob
-    ensures { result ≡ asked_job (rows_of (found_of matches.now)) }
+fn requested_job(matches: &ArgMatches<'_>) -> RequestedJob
+    ensures { result ≡ requested_job (rows_of (found_of matches.now)) }
 {
     if is_flagged(matches, "least") {
-        AskedJob::Least
+        RequestedJob::Least
     } else if is_flagged(matches, "open") {
-        AskedJob::Open
+        RequestedJob::Open
     } else {
-        AskedJob::Named
+        RequestedJob::Named
     }
 }
 
@@ -64,24 +67,24 @@ fn granting_option(matches: &ArgMatches<'_>) -> Option<ImageOption>
 }
 
 /// The first option that grants something beside the least job.
-fn beside_least(matches: &ArgMatches<'_>) -> Option<GrantFault>
-    ensures { result ≡ beside_least (rows_of (found_of matches.now)) }
+fn option_with_least(matches: &ArgMatches<'_>) -> Option<GrantFault>
+    ensures { result ≡ option_with_least (rows_of (found_of matches.now)) }
 {
     if is_flagged(matches, "open") {
-        return Some(GrantFault::BesideLeast(ImageOption::Open));
+        return Some(GrantFault::WithLeast(ImageOption::Open));
     }
     match granting_option(matches) {
-        Some(option) => Some(GrantFault::BesideLeast(option)),
+        Some(option) => Some(GrantFault::WithLeast(option)),
         None => None,
     }
 }
 
 /// The first option that grants something beside the open job.
-fn beside_open(matches: &ArgMatches<'_>) -> Option<GrantFault>
-    ensures { result ≡ beside_open (rows_of (found_of matches.now)) }
+fn option_with_open(matches: &ArgMatches<'_>) -> Option<GrantFault>
+    ensures { result ≡ option_with_open (rows_of (found_of matches.now)) }
 {
     match granting_option(matches) {
-        Some(option) => Some(GrantFault::BesideOpen(option)),
+        Some(option) => Some(GrantFault::WithOpen(option)),
         None => None,
     }
 }
@@ -91,9 +94,9 @@ pub(crate) fn grant_fault(matches: &ArgMatches<'_>) -> Option<GrantFault>
     ensures { result ≡ grant_fault (rows_of (found_of matches.now)) }
 {
     if is_flagged(matches, "least") {
-        beside_least(matches)
+        option_with_least(matches)
     } else if is_flagged(matches, "open") {
-        beside_open(matches)
+        option_with_open(matches)
     } else if text_met(matches, "extent").is_some() {
         None
     } else {
@@ -108,7 +111,7 @@ fn extents<'a>(alloc: Global, matches: &ArgMatches<'a>) -> Result<Vec<&'a str>, 
 {
     let mut texts = texts_met(alloc, matches, "extent")?;
     if texts.is_empty() {
-        texts.push("0-202")?;
+        texts.push(ALL_CYLINDERS)?;
     }
     Ok(texts)
 }
@@ -128,7 +131,7 @@ fn image_words<'a>(alloc: Global, matches: &ArgMatches<'a>) -> Result<ImageWords
         store: texts_met(alloc, matches, "store")?,
         at: text_or(matches, "at", "0"),
         storage: text_met(matches, "storage"),
-        job: asked_job(matches),
+        job: requested_job(matches),
     })
 }
 

@@ -29,7 +29,7 @@ pub enum ImageOption {
 
 /// The job of a deck that is made of an image.
 #[derive(Clone, Copy, PartialEq, Eq)]
-pub enum AskedJob {
+pub enum RequestedJob {
     /// The one that mask, extents and areas say.
     Named,
     /// The least job, which grants what the program needs.
@@ -63,16 +63,16 @@ pub struct ImageWords<'a> {
     /// A multiple of 8, at most 1000000.
     pub storage: Option<&'a str>,
     /// The job of the deck. If it isn't the named one, mask, extents and areas don't matter.
-    pub job: AskedJob,
+    pub job: RequestedJob,
 }
 
 /// Why options don't say one job.
 #[derive(Clone, Copy)]
 pub enum GrantFault {
     /// This option stands beside `--least`, which grants in its place.
-    BesideLeast(ImageOption),
+    WithLeast(ImageOption),
     /// This option stands beside `--open`, which grants in its place.
-    BesideOpen(ImageOption),
+    WithOpen(ImageOption),
     /// There is neither an extent nor `--least` nor `--open`.
     NoExtent,
 }

@@ -22,4 +22,4 @@ mod words_met;
 pub use crate::action::{Action, Explained};
 pub use crate::command_line::{Request, read_request};
 pub use crate::image_command::ImageRequest;
-pub use crate::image_words::{AskedJob, GrantFault, ImageOption, ImageWords};
+pub use crate::image_words::{GrantFault, ImageOption, ImageWords, RequestedJob};

@@ -51,7 +51,8 @@ const USAGE: &str = "chanv verify [FILE]...
        chanv explain [WORD]...
        chanv show [--name] <CCW>";
 
-// The lines of `USAGE` for the commands that have options.
+// The lines of `USAGE` for the commands that have options. A text can't be put together of
+// constants, so each stands twice; the test `facts` compares them.
 const USAGE_OF_SHOW: &str = "chanv show [--name] <CCW>";
 
 const USAGE_OF_LIST: &str = "chanv list [--wide] [FILE]...";

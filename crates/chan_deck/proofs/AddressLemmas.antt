@@ -6,8 +6,9 @@ use Rattle.std.proofs.lemmas.Bool.{le-ltb, lt-ltb}
 use Rattle.std.proofs.lemmas.Str.{encode_ascii}
 use Rattle.hex.specs.Hex.{encode_upper, encode_with, upper_digits}
 use Rattle.chan_deck.specs.Item.{size_digits}
-use Rattle.chan_deck.specs.Texts.{address_text}
+use Rattle.chan_deck.specs.VerdictLine.{address_text}
 use Rattle.chan_deck.proofs.UpperDigits.{digit_ascii}
+use Rattle.ccw_core.specs.declared.ccw.TheConstants.{STORAGE_LIMIT}
 
 -- the digits of a byte, as characters
 pub two_digits : (b high low : ℕ) → high ≡ b / 16 → low ≡ b % 16
@@ -24,16 +25,16 @@ first_digit n lt =
     let first : n / 16777216 % 256 % 16 ≡ n / 16777216 = omega arith in
     ap (λ k. slice_index upper_digits k ∷ encode_upper (bytes_high_first 3 n)) first
 
-six_digits : (n : ℕ) → n < 2 ^ 24 → address_text n ≡ encode_upper (bytes_high_first 3 n)
-six_digits n low = rw (lt-ltb n (2 ^ 24) low) refl
+six_digits : (n : ℕ) → n < STORAGE_LIMIT → address_text n ≡ encode_upper (bytes_high_first 3 n)
+six_digits n low = rw (lt-ltb n STORAGE_LIMIT low) refl
 
-seven_digits : (n : ℕ) → 2 ^ 24 ≤ n → n < 2 ^ 28 → address_text n ≡ slice_index upper_digits (n / 16777216) ∷ encode_upper (bytes_high_first 3 n)
-seven_digits n low high = rw (le-ltb n (2 ^ 24) low, lt-ltb n (2 ^ 28) high) (first_digit n high)
+seven_digits : (n : ℕ) → STORAGE_LIMIT ≤ n → n < 2 ^ 28 → address_text n ≡ slice_index upper_digits (n / 16777216) ∷ encode_upper (bytes_high_first 3 n)
+seven_digits n low high = rw (le-ltb n STORAGE_LIMIT low, lt-ltb n (2 ^ 28) high) (first_digit n high)
 
 eight_digits : (n : ℕ) → 2 ^ 28 ≤ n → address_text n ≡ encode_upper (to_be_bytes w32 n)
 eight_digits n high =
-    let past : 2 ^ 24 ≤ n = omega arith in
-    rw (le-ltb n (2 ^ 24) past, le-ltb n (2 ^ 28) high) refl
+    let past : STORAGE_LIMIT ≤ n = omega arith in
+    rw (le-ltb n STORAGE_LIMIT past, le-ltb n (2 ^ 28) high) refl
 
 -- the last six digits of four bytes
 abbrev last_six : List ℕ → List ℕ

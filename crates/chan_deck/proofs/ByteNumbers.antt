@@ -7,11 +7,12 @@ use Rattle.std.proofs.lemmas.Nat.{be_bytes_4}
 use Rattle.hex.specs.Hex.{encode_upper}
 use Rattle.chan_deck.specs.Item.{IsByte, size_digits}
 use Rattle.chan_deck.proofs.UpperDigits.{leading_zero}
+use Rattle.ccw_core.specs.declared.ccw.TheConstants.{STORAGE_LIMIT}
 
 -- an address has the three bytes that it was made of
 pub address_bytes : (b : List ℕ) (n : ℕ) → length b ≡ 3 → ((i : ℕ) → get_or b i 0 < 256)
     → n ≡ from_be_bytes w32 (0 ∷ get_or b 0 0 ∷ get_or b 1 0 ∷ get_or b 2 0 ∷ [])
-    → (n < 2 ^ 24) × (bytes_high_first 3 n ≡ b)
+    → (n < STORAGE_LIMIT) × (bytes_high_first 3 n ≡ b)
 address_bytes [] n len fits e = absurd (omega arith)
 address_bytes (x ∷ []) n len fits e = absurd (omega arith)
 address_bytes (x ∷ y ∷ []) n len fits e = absurd (omega arith)

@@ -11,7 +11,7 @@ use Rattle.std.proofs.lemmas.Bool.Decides.{nat_tests}
 use Rattle.ccw_core.specs.declared.areas.Area.{Area}
 use Rattle.ckd_core.specs.Mask.{is_mask}
 use Rattle.chan_deck.specs.Item.{Item, header, device, mask, start, limit, extent, fetch, store}
-use Rattle.chan_deck.specs.Item.{storage, put, end, line, IsSaid, Says}
+use Rattle.chan_deck.specs.Item.{storage, put, end, line, LineSaysIfAny, LineSays}
 use Rattle.chan_deck.specs.Image.{Image, items, puts, is_zero, extent_of, limit_line}
 use Rattle.chan_deck.specs.Refused.{last_of, is_end, is_second, has_ended, may_stand, may_follow}
 use Rattle.chan_deck.specs.Refused.{size_said, is_size, is_limit, is_above, is_place, Found}
@@ -27,6 +27,7 @@ use Rattle.chan_deck.specs.declared.version.Version.{Version}
 use Rattle.chan_deck.specs.declared.version.Version.TheVariants.{One, Two}
 use Rattle.chan_deck.specs.declared.cause.Cause.{Cause}
 use Rattle.chan_deck.specs.declared.cause.Cause.TheVariants as causes
+use Rattle.ckd_core.specs.declared.device.TheConstants.{LAST_CYLINDER}
 
 -- ---- what may stand where a reading ends
 
@@ -74,15 +75,15 @@ is_cause : (before : List Item) (found : Found) (c : Cause) → has_ended before
 is_cause before found c e h earlier = record { applies = rw e h; first = λ other lt k. earlier other lt (rw e at k) }
 
 -- a line that may stand behind some others, and what it says
-record IsTold (before : List Item) (l : List ℕ) (i : Item) : Type 0 where
-  says : Says l i
+record StandsAndSays (before : List Item) (l : List ℕ) (i : Item) : Type 0 where
+  says : LineSays l i
   stands : may_follow before i ≡ true
 
 -- what the causes say of a line that may stand
 abbrev Wrong : List Item → Item → Cause → Type 0
 Wrong before (mask m) causes.Mask = is_mask m ≡ false
 Wrong before (extent a b) causes.ExtentBackwards = b < a
-Wrong before (extent a b) causes.ExtentPastDevice = 202 < b
+Wrong before (extent a b) causes.ExtentPastDevice = LAST_CYLINDER < b
 Wrong before (storage n) causes.Size = is_size n ≡ false
 Wrong before (put a w) causes.PutAddress = is_place before a ≡ false
 Wrong before (put a w) causes.PutZero = is_zero w ≡ true
@@ -94,7 +95,7 @@ only_header : (l : List ℕ) (i : Item) → may_follow [] i ≡ true → l ≡ l
 only_header l (header h) f e none = none h e
 only_header l i f e none = absurd cc
 
-wrong : (before : List Item) (l : List ℕ) (i : Item) (c : Cause) → IsTold before l i → Applies before (whole_line l) c → Wrong before i c
+wrong : (before : List Item) (l : List ℕ) (i : Item) (c : Cause) → StandsAndSays before l i → Applies before (whole_line l) c → Wrong before i c
 wrong before l i causes.Header told h = absurd (only_header l i (rw h.0 at told.stands) told.says.1 h.1)
 wrong before l i causes.Form told h = absurd (cc (told.stands, h i told.says))
 wrong before l i causes.Mask told h = subst (λ j. Wrong before j causes.Mask) (says_one l (mask h.0) i h.1 told.says) h.2
@@ -176,20 +177,20 @@ abbrev Judges : State → List ℕ → Result State Cause → Type 0
 Judges s l r = IfErr r (For s l)
 
 -- a cause of what a line says that no earlier cause can apply to
-blamed : (s : State) (l : List ℕ) (i : Item) (c : Cause) → IsState s → is_whole s ≡ false → IsTold (said s) l i
+blamed : (s : State) (l : List ℕ) (i : Item) (c : Cause) → IsState s → is_whole s ≡ false → StandsAndSays (said s) l i
     → Applies (said s) (whole_line l) c → ((other : Cause) → rank other < rank c → Wrong (said s) i other → ⊥) → For s l c
 blamed s l i c is open_yet told h none =
     is_cause (said s) (whole_line l) c (ended_said s is ∙ open_yet) h (λ other lt k. none other lt (wrong (said s) l i other told k))
 
 extent_cause : (h : Heading) (es : List (ℕ × ℕ)) (fs ss : List Area) (l : List ℕ) (a b : ℕ)
-    → IsState (Listing h es fs ss) → IsTold (said (Listing h es fs ss)) l (extent a b)
+    → IsState (Listing h es fs ss) → StandsAndSays (said (Listing h es fs ss)) l (extent a b)
     → Judges (Listing h es fs ss) l (on_extent h es a b)
 extent_cause h es fs ss l a b is told =
     let s = Listing h es fs ss in
     let least = from_least (said s) (extent a b) in
     cond_both (ltb b a) _ _ (Judges s l)
     (λ back. blamed s l (extent a b) causes.ExtentBackwards is refl told (a, b, told.says, ltb-true _ _ back) (λ other lt h. omega (arith, least other h)))
-    (λ ordered. cond_both (ltb 202 b) _ _ (Judges s l)
+    (λ ordered. cond_both (ltb LAST_CYLINDER b) _ _ (Judges s l)
     (λ past. blamed s l (extent a b) causes.ExtentPastDevice is refl told (a, b, told.says, ltb-true _ _ past) (λ other lt h.
     let first = one_rank other causes.ExtentBackwards (omega (arith, least other h)) in
     omega (arith, ltb-false _ _ ordered, subst (λ c. Wrong (said s) (extent a b) c) first h)))
@@ -197,7 +198,7 @@ extent_cause h es fs ss l a b is told =
 
 put_cause : (h : Heading) (es : List (ℕ × ℕ)) (fs ss : List Area) (n : ℕ) (bytes l : List ℕ)
     (a : ℕ) (w : List ℕ)
-    → IsState (Filling h es fs ss n bytes) → IsTold (said (Filling h es fs ss n bytes)) l (put a w)
+    → IsState (Filling h es fs ss n bytes) → StandsAndSays (said (Filling h es fs ss n bytes)) l (put a w)
     → Judges (Filling h es fs ss n bytes) l (on_put h es fs ss n bytes a w)
 put_cause h es fs ss n bytes l a w is told =
     let s = Filling h es fs ss n bytes in
@@ -212,7 +213,7 @@ put_cause h es fs ss n bytes l a w is told =
     (λ away. blamed s l (put a w) causes.PutAddress is refl told (a, w, told.says, sym place ∙ away) (λ other lt h. omega (arith, least other h)))
 
 -- the cause of a line that may stand and is refused for what it says
-told_cause : (s : State) (l : List ℕ) (i : Item) → IsState s → IsTold (said s) l i → stands s i ≡ true → Judges s l (after_item s i)
+told_cause : (s : State) (l : List ℕ) (i : Item) → IsState s → StandsAndSays (said s) l i → stands s i ≡ true → Judges s l (after_item s i)
 told_cause (OnDevice h v) l (mask m) is told f =
     let s = OnDevice h v in
     cond_both (is_mask m) _ _ (Judges s l) (λ _. tt)
@@ -260,12 +261,12 @@ early before l causes.Header lt h = (refl, h.0)
 early before l causes.Ended lt h = absurd h
 early before l c lt h = absurd (omega arith)
 
-in_form : (s : State) (l : List ℕ) → IsState s → is_whole s ≡ false → (said s ≡ [] → ⊥) → ((i : Item) → Says l i → stands s i ≡ false) → For s l causes.Form
+in_form : (s : State) (l : List ℕ) → IsState s → is_whole s ≡ false → (said s ≡ [] → ⊥) → ((i : Item) → LineSays l i → stands s i ≡ false) → For s l causes.Form
 in_form s l is open_yet some all =
     is_cause (said s) (whole_line l) causes.Form (ended_said s is ∙ open_yet) (λ i says. stands_said s i is ∙ all i says)
     (λ other lt h. some (early (said s) l other lt h).1)
 
-form_cause : (s : State) (l : List ℕ) → IsState s → ((i : Item) → Says l i → stands s i ≡ false) → For s l (no_form s)
+form_cause : (s : State) (l : List ℕ) → IsState s → ((i : Item) → LineSays l i → stands s i ≡ false) → For s l (no_form s)
 form_cause Opening l is all =
     is_cause [] (whole_line l) causes.Header refl (refl, λ h same. absurd (cc (all (header h) (tt, same))))
     (λ other lt h. omega (arith, (early [] l other (omega arith) h).0))
@@ -274,20 +275,21 @@ form_cause s l is all = in_form s l is refl (λ e. absurd cc) all
 
 -- ---- each line that is refused
 
-item_cause : (s : State) (l : List ℕ) (i : Item) → IsState s → Says l i → Judges s l (step s i)
+item_cause : (s : State) (l : List ℕ) (i : Item) → IsState s → LineSays l i → Judges s l (step s i)
 item_cause s l i is says =
     cond_both (stands s i) _ _ (Judges s l)
     (λ f. told_cause s l i is (record { says = says; stands = stands_said s i is ∙ f }) f)
     (λ f. form_cause s l is (λ j other. ap (λ k. stands s k) (says_one l j i other says) ∙ f))
 
 -- a line that is refused has the cause for which it is refused
-pub line_cause : (s : State) (l : List ℕ) (o : Option Item) (c : Cause) → IsState s → IsSaid l o
+pub line_cause : (s : State) (l : List ℕ) (o : Option Item) (c : Cause) → IsState s → LineSaysIfAny l o
     → after_line s o ≡ Err c → IsDeckCause (said s) (whole_line l) c
 line_cause s l (Some i) c is says e = IfErr-at_err (For s l) e (item_cause s l i is says)
 line_cause s l None c is none e = IfErr-at_err (For s l) e (form_cause s l is (λ i says. absurd (none i says)))
 
 -- whatever it says
-pub all_refused : (s : State) (l : List ℕ) (o : Option Item) (c : Cause) → IsSaid l o → after_line s o ≡ Err c → (i : Item) → Says l i → step s i ≡ Err c
+pub all_refused : (s : State) (l : List ℕ) (o : Option Item) (c : Cause) → LineSaysIfAny l o → after_line s o ≡ Err c → (i : Item) → LineSays l i → step s i
+    ≡ Err c
 all_refused s l (Some j) c says e i other = ap (λ k. step s k) (says_one l i j other says) ∙ e
 all_refused s l None c none e i says = absurd (none i says)
 

@@ -1,5 +1,5 @@
 -- A deck's lines are read as that deck, and whatever has been read can go on to be a deck.
-use Rattle.std.proofs.Common.{◌≡◌, ℕ, zero, suc, ◌+◌, ◌-◌, ◌*◌, ◌/◌, ◌%◌, ◌^◌, ◌≤◌, true, false}
+use Rattle.std.proofs.Common.{◌≡◌, ℕ, zero, suc, ◌+◌, ◌-◌, ◌*◌, ◌/◌, ◌%◌, ◌≤◌, true, false}
 use Rattle.std.proofs.Common.{List, [], ◌∷◌, ◌++◌, length, take, drop, map, Result, Ok, Err, refl}
 use Rattle.std.proofs.Common.{sym, ap, subst, ◌∙◌, append_assoc, arith, replicate, length-append}
 use Rattle.std.proofs.Common.{length-drop, lit<}
@@ -28,6 +28,8 @@ use Rattle.chan_deck.specs.declared.version.Version.TheVariants.{One, Two}
 use Rattle.chan_deck.specs.declared.version.VersionNumber.TheVariants as numbers
 use Rattle.ckd_core.specs.Mask.{is_mask}
 use Rattle.chan_deck.specs.declared.cause.Cause.{Cause}
+use Rattle.ckd_core.specs.declared.device.TheConstants.{LAST_CYLINDER}
+use Rattle.ccw_core.specs.declared.ccw.TheConstants.{STORAGE_LIMIT}
 
 -- ---- runs
 
@@ -61,7 +63,7 @@ run-says s t (i ∷ js) is forms e =
 over_extents : (h : Heading) (es xs : List (ℕ × ℕ)) → AllByRecursion IsExtent xs → run (Listing h es [] []) (map extent_of xs) ≡ Ok (Listing h (es ++ xs) [] [])
 over_extents h es [] all = rw append-nil refl
 over_extents h es (x ∷ xs) all =
-    rw (le-ltb x.1 x.0 all.0.0, le-ltb 202 x.1 all.0.1)
+    rw (le-ltb x.1 x.0 all.0.0, le-ltb LAST_CYLINDER x.1 all.0.1)
     (over_extents h (es ++ x ∷ []) xs all.1 ∙ ap (λ t. Ok (Listing h t [] [])) (append_assoc es (x ∷ []) xs))
 
 over_fetches : (h : Heading) (e : ℕ × ℕ) (es : List (ℕ × ℕ)) (fs xs : List Area)
@@ -156,7 +158,7 @@ reads_deck d is =
     let F = map fetch d.fetch in
     let S = map store d.store in
     let filled = over_puts h d.extents d.fetch d.store size (size / 8) 0 [] d.storage (omega arith) refl (omega (arith, is.whole)) (omega (arith, is.whole)) in
-    let right : is_size size ≡ true = rw (is.whole, le-leb size (2 ^ 24) is.size) refl in
+    let right : is_size size ≡ true = rw (is.whole, le-leb size STORAGE_LIMIT is.size) refl in
     let full : pad filled.0 size ≡ d.storage = filled.2 in
     let H = header (header_of d.version) ∷ device d.device ∷ mask d.mask ∷ start d.start ∷ limit_line d.version in
     let joined : H ++ E ++ F ++ S ≡ H ++ (E ++ F ++ S) = ap (λ t. t ++ S) (append_assoc H E F) ∙ append_assoc H (E ++ F) S in

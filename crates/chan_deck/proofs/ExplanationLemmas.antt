@@ -15,11 +15,11 @@ use Rattle.chan_walk.specs.declared.offence.Offence.{Offence}
 use Rattle.chan_walk.specs.declared.evidence.Evidence.{Evidence}
 use Rattle.chan_walk.specs.declared.place.Place.{Place}
 use Rattle.chan_walk.specs.declared.argument.GivenBytes.{GivenBytes}
-use Rattle.chan_walk.specs.Read.{addresses_given}
+use Rattle.chan_walk.specs.Operand.{addresses_given}
 use Rattle.chan_deck.specs.Explanation.{AddsText, ArePathRows, IsPathRow, also_after, also_lines}
 use Rattle.chan_deck.specs.Explanation.{argument_text, given_text, next_lines, ranges_text}
 use Rattle.chan_deck.specs.Explanation.{seek_text, taken_text, weaker_text}
-use Rattle.chan_deck.specs.Texts.{address_text}
+use Rattle.chan_deck.specs.VerdictLine.{address_text}
 use Rattle.chan_deck.specs.Item.{byte_digits}
 use Rattle.chan_deck.specs.Listing.{command_name}
 

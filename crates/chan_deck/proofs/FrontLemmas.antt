@@ -13,7 +13,7 @@ use Rattle.chan_walk.proofs.Theory.Lists.{all_append}
 use Rattle.chan_deck.proofs.Elements.{all_take, all_drop, all_map}
 use Rattle.ckd_core.specs.Extents.{IsExtent}
 use Rattle.chan_deck.specs.Item.{Item, header, device, mask, start, fetch, store, storage, end}
-use Rattle.chan_deck.specs.Item.{line, text, HasForm, Says, IsByte, IsArea}
+use Rattle.chan_deck.specs.Item.{line, text, HasForm, LineSays, IsByte, IsArea}
 use Rattle.chan_deck.specs.Image.{Image, IsDeck, HasLimit, header_of, limit_line, items, puts}
 use Rattle.chan_deck.specs.Image.{is_zero, extent_of, spelling, Spells}
 use Rattle.chan_deck.specs.Refused.{split, lines, first_lines, onto_first, BeginsSomeDeck}
@@ -25,6 +25,7 @@ use Rattle.chan_deck.specs.declared.version.Version.{Version}
 use Rattle.chan_deck.specs.declared.version.Version.TheVariants.{One, Two}
 use Rattle.chan_deck.proofs.DeckRuns.{run-append, run-says, reads_deck, completes}
 use Rattle.chan_deck.specs.declared.cause.Cause.{Cause}
+use Rattle.ccw_core.specs.declared.ccw.TheConstants.{STORAGE_LIMIT}
 
 abbrev Line : Type 0
 Line = List ℕ
@@ -79,7 +80,8 @@ no_feeds_said (i ∷ is) = (line_no_feed i, no_feeds_said is)
 
 -- ---- the lines of a deck
 
-puts_form : (n at : ℕ) (bytes : List ℕ) → length bytes ≡ 8 * n → at + 8 * n ≤ 2 ^ 24 → AllByRecursion IsByte bytes → AllByRecursion HasForm (puts n at bytes)
+puts_form : (n at : ℕ) (bytes : List ℕ) → length bytes ≡ 8 * n → at + 8 * n ≤ STORAGE_LIMIT
+    → AllByRecursion IsByte bytes → AllByRecursion HasForm (puts n at bytes)
 unfolding puts
 puts_form zero at bytes len fits h = tt
 puts_form (suc n) at bytes len fits h =
@@ -127,7 +129,7 @@ front_lines ls h f =
 -- what lines say, with one line more
 pub same_front : (is js : List Item) (l : Line) (more : List Line) → AllByRecursion HasForm is
     → AllByRecursion HasForm js → map line js ≡ map line is ++ l ∷ more
-    → (i : Item) × (rest : List Item) × Says l i × (js ≡ is ++ i ∷ rest)
+    → (i : Item) × (rest : List Item) × LineSays l i × (js ≡ is ++ i ∷ rest)
 same_front [] [] l more hi hj e = absurd (omega (arith, ap length e))
 same_front [] (j ∷ js) l more hi hj e =
     let first : line j ≡ l = cc in
@@ -202,7 +204,7 @@ lines_left t s n rest l after st e = ap (λ (p : List Line × List ℕ). p.0) st
 -- a line that the state refuses, whatever it says, is on no front of a deck's text
 pub no_front : (t : List ℕ) (s : State) (n : ℕ) (rest l after : List ℕ) (c : Cause)
     → HasRead t s n rest → split rest ≡ (l ∷ (split after).0, (split after).1)
-    → ((i : Item) → Says l i → step s i ≡ Err c) → BeginsSomeDeck (first_lines n t) → ⊥
+    → ((i : Item) → LineSays l i → step s i ≡ Err c) → BeginsSomeDeck (first_lines n t) → ⊥
 no_front t s n rest l after c st e all f =
     let ls = map line st.said in
     let n-is : n ≡ length ls + 1 = omega (arith, length-map st.said line, st.number) in
@@ -234,7 +236,7 @@ whole_front t n d sp = (
 
 pub refused_at_line : (t : List ℕ) (s : State) (n : ℕ) (rest l after : List ℕ) (c : Cause)
     → HasRead t s n rest → split rest ≡ (l ∷ (split after).0, (split after).1)
-    → ((i : Item) → Says l i → step s i ≡ Err c) → IsRefusedAt t n
+    → ((i : Item) → LineSays l i → step s i ≡ Err c) → IsRefusedAt t n
 refused_at_line t s n rest l after c st e all = record {
   least = fronts t s n rest st;
   here = λ le f. no_front t s n rest l after c st e all f;

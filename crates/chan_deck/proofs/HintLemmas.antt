@@ -5,7 +5,8 @@ use Rattle.std.proofs.Common.{ap, subst, ◌∙◌, arith, append_assoc, length-
 use Rattle.std.specs.List.{AllByRecursion}
 use Rattle.std.proofs.lemmas.List.{append-nil, take-append-le, take_all}
 use Rattle.chan_deck.specs.Hint.{AreBefore, IsBehind, storage_said}
-use Rattle.chan_deck.specs.Item.{Item, header, storage, line, HasForm, IsSaid, Says, Reads, said_by}
+use Rattle.chan_deck.specs.Item.{Item, header, storage, line, HasForm, LineSaysIfAny, LineSays}
+use Rattle.chan_deck.specs.Item.{LineReads, said_by}
 use Rattle.chan_deck.specs.Reading.{is_empty}
 use Rattle.chan_deck.specs.Refused.{is_second, last_of, lines, split}
 use Rattle.chan_deck.specs.declared.hint.Before.{Before}
@@ -65,7 +66,7 @@ item_told is i r second size says e f = record {
 
 -- the items of some lines and of one more are the items of these, and one more
 last_line : (ls : List (List ℕ)) (l : List ℕ) (is : List Item) → AllByRecursion HasForm is → map line is ≡ ls ++ l ∷ []
-    → (before : List Item) × (i : Item) × (is ≡ before ++ i ∷ []) × (AllByRecursion HasForm before × (map line before ≡ ls)) × Says l i
+    → (before : List Item) × (i : Item) × (is ≡ before ++ i ∷ []) × (AllByRecursion HasForm before × (map line before ≡ ls)) × LineSays l i
 last_line [] l [] forms e = absurd cc
 last_line [] l (i ∷ []) forms e = ([], i, refl, (tt, refl), (forms.0, sym (head_is e)))
 last_line [] l (i ∷ j ∷ is) forms e = absurd cc
@@ -75,10 +76,10 @@ last_line (k ∷ ls) l (i ∷ is) forms e =
     (i ∷ before, j, ap (λ x. i ∷ x) same, ((forms.0, said.0), ap (λ x. x ∷ map line before) (head_is e) ∙ ap (λ x. k ∷ x) said.1), says)
 
 -- what a line reads as is what it says
-read_as : (l : List ℕ) (r : said.Item) (i : Item) → Reads l r → Says l i → said_by r ≡ Some i
+read_as : (l : List ℕ) (r : said.Item) (i : Item) → LineReads l r → LineSays l i → said_by r ≡ Some i
 read_as l r i reads says = go (said_by r) reads.1
   where
-    go : (o : Option Item) → IsSaid l o → o ≡ Some i
+    go : (o : Option Item) → LineSaysIfAny l o → o ≡ Some i
     go None none = absurd (none i says)
     go (Some j) is = ap Some (says_one l j i is says)
 
@@ -92,7 +93,7 @@ pub record AreTaken (t : List ℕ) (n : ℕ) (b : Before) (rest : List ℕ) : Ty
   pub says : (before : List Item) → AllByRecursion HasForm before → map line before ≡ done → AreBefore before b
 
 pub one_taken : (t : List ℕ) (n : ℕ) (b more : Before) (r : said.Item) (rest after l : List ℕ)
-    → AreTaken t n b rest → split rest ≡ (l ∷ (split after).0, (split after).1) → Reads l r
+    → AreTaken t n b rest → split rest ≡ (l ∷ (split after).0, (split after).1) → LineReads l r
     → ((before : List Item) (i : Item) → AreBefore before b → said_by r ≡ Some i → AreBefore (before ++ i ∷ []) more)
     → AreTaken t (n + 1) more after
 one_taken t n b more r rest after l h e reads with = record {

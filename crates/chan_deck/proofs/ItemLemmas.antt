@@ -15,14 +15,15 @@ use Rattle.hex.proofs.HexLemmas.{decode_of-encode_upper}
 use Rattle.ccw_core.specs.declared.areas.Area.{Area}
 use Rattle.ckd_core.specs.declared.device.Device.TheVariants.{D2311, D2314}
 use Rattle.chan_deck.specs.Item.{Item, header, device, mask, start, limit, extent, fetch, store}
-use Rattle.chan_deck.specs.Item.{storage, put, end, line, HasForm, IsSaid, Says, IsByte, IsAddress}
-use Rattle.chan_deck.specs.Item.{IsArea, byte_digits, address_digits, size_digits, limit_digits}
-use Rattle.chan_deck.specs.Item.{cylinder_digits, area_digits}
+use Rattle.chan_deck.specs.Item.{storage, put, end, line, HasForm, LineSaysIfAny, LineSays, IsByte}
+use Rattle.chan_deck.specs.Item.{IsAddress, IsArea, byte_digits, address_digits, size_digits}
+use Rattle.chan_deck.specs.Item.{limit_digits, cylinder_digits, area_digits}
 use Rattle.chan_deck.specs.declared.version.VersionNumber.TheVariants as numbers
 use Rattle.chan_walk.proofs.Theory.Lists.{all_append}
 use Rattle.chan_deck.proofs.Elements.{all_drop}
 use Rattle.chan_deck.proofs.ByteNumbers.{bytes_three, bytes_four}
 use Rattle.chan_deck.proofs.UpperDigits.{bytes_at, encoded_pass, with_zero}
+use Rattle.ccw_core.specs.declared.ccw.TheConstants.{STORAGE_LIMIT}
 
 -- ---- no line feeds
 
@@ -175,7 +176,7 @@ read_back end h = refl
 pub one_item : (i j : Item) → HasForm i → HasForm j → line i ≡ line j → i ≡ j
 one_item i j hi hj e = sym (read_back i hi) ∙ ap read e ∙ read_back j hj
 
-pub says_one : (l : List ℕ) (i j : Item) → Says l i → Says l j → i ≡ j
+pub says_one : (l : List ℕ) (i j : Item) → LineSays l i → LineSays l j → i ≡ j
 says_one l i j hi hj = one_item i j hi.0 hj.0 (sym hi.1 ∙ hj.1)
 
 -- ---- whether a line says something
@@ -205,20 +206,20 @@ bytes_settled (b ∷ bytes) = both (IsByte b) (AllByRecursion IsByte bytes) (und
 
 form_settled : (i : Item) → Settled (HasForm i)
 form_settled (mask m) = under m 256
-form_settled (start a) = under a (2 ^ 24)
+form_settled (start a) = under a STORAGE_LIMIT
 form_settled (limit n) = under n 100000
 form_settled (extent a b) = both _ _ (under a 1000) (under b 1000)
-form_settled (fetch a) = both _ _ (under a.start (2 ^ 24)) (under a.len (2 ^ 24))
-form_settled (store a) = both _ _ (under a.start (2 ^ 24)) (under a.len (2 ^ 24))
+form_settled (fetch a) = both _ _ (under a.start STORAGE_LIMIT) (under a.len STORAGE_LIMIT)
+form_settled (store a) = both _ _ (under a.start STORAGE_LIMIT) (under a.len STORAGE_LIMIT)
 form_settled (storage n) = under n (2 ^ 28)
 form_settled (put a w) =
-    both _ _ (under a (2 ^ 24)) (both _ _ (by_test (length w ≡ 8) (length w == 8) (Decides-eqb (length w) 8)) (bytes_settled w))
+    both _ _ (under a STORAGE_LIMIT) (both _ _ (by_test (length w ≡ 8) (length w == 8) (Decides-eqb (length w) 8)) (bytes_settled w))
 form_settled i = inl tt
 
 -- a line says something, what it is read as, or nothing
-pub line_read : (l : List ℕ) → (o : Option Item) × IsSaid l o
+pub line_read : (l : List ℕ) → (o : Option Item) × LineSaysIfAny l o
 line_read l =
     elim (both (HasForm (read l)) (l ≡ line (read l)) (form_settled (read l)) (by_test _ _ (bytes_eq-Decides l (line (read l))))) [
       | inl says ↦ (Some (read l), says)
-      | inr none ↦ (None, λ i says. none (subst (λ j. Says l j) (sym (read_back i says.0) ∙ ap read (sym says.1)) says))
+      | inr none ↦ (None, λ i says. none (subst (λ j. LineSays l j) (sym (read_back i says.0) ∙ ap read (sym says.1)) says))
     ]

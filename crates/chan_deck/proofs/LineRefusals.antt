@@ -4,7 +4,7 @@ use Rattle.std.proofs.Common.{◌<◌}
 use Rattle.chan_deck.specs.Refused.{is_size}
 use Rattle.ccw_core.specs.declared.areas.Area.{Area}
 use Rattle.chan_deck.specs.Item.{storage, said_by}
-use Rattle.chan_deck.specs.Reading.{State, Shortens, Listing, Filling, step, after_line}
+use Rattle.chan_deck.specs.Reading.{State, IsLessLeft, Listing, Filling, step, after_line}
 use Rattle.chan_deck.specs.declared.item.Item.{Item}
 use Rattle.chan_deck.specs.declared.item.Item.TheVariants as found
 use Rattle.chan_deck.specs.declared.heading.Heading.{Heading}
@@ -25,6 +25,6 @@ good_size h fs ss [] n some e = absurd (omega arith)
 good_size h fs ss (x ∷ es) n some e = ap (λ b. cond b (Ok (Filling h (x ∷ es) fs ss n [])) (Err causes.Size)) e
 
 -- a line that was taken was read
-pub was_read : (s next : State) (m n : ℕ) (i : Item) → after_line s (said_by i) ≡ Ok next → Shortens m i n → n < m
+pub was_read : (s next : State) (m n : ℕ) (i : Item) → after_line s (said_by i) ≡ Ok next → IsLessLeft m i n → n < m
 was_read s next m n found.Missing e h = absurd cc
 was_read s next m n i e h = h

@@ -16,7 +16,7 @@ use Rattle.chan_walk.specs.Place.{is_fresh}
 use Rattle.chan_walk.specs.Visit.{begun_at}
 use Rattle.chan_deck.specs.Listing.{listing, marked_row, row_with, command_of, is_named, seen_row}
 use Rattle.chan_deck.specs.Listing.{seen_listing, word_text, way_word, transfer_word, mark_word}
-use Rattle.chan_deck.specs.Texts.{address_text, verdict_line}
+use Rattle.chan_deck.specs.VerdictLine.{address_text, verdict_line}
 
 named_by : (e : Entry) (c : Fields) → word_text e (Some c) (if is_fresh e then lookup c.command else None) ≡ word_text e (Some c) (lookup c.command)
 named_by Fresh c = refl

@@ -1,18 +1,17 @@
 -- Texts to which notes are added.
-use Rattle.std.proofs.Common.{◌≡◌, ℕ, ◌<◌, ◌≤◌, Bool, true, false, List, [], ◌∷◌}
-use Rattle.std.proofs.Common.{if◌then◌else◌, length, arith, refl, sym, ap, ◌∙◌, Option, None, Some}
-use Rattle.std.proofs.Common.{zero, suc}
+use Rattle.std.proofs.Common.{◌≡◌, ℕ, ◌<◌, ◌≤◌, Bool, true, false, List, [], ◌∷◌, if◌then◌else◌}
+use Rattle.std.proofs.Common.{length, arith, refl, sym, ap, ◌∙◌, Option, None, Some, zero, suc}
 use Rattle.ccw_core.specs.declared.areas.Area.{Area}
 use Rattle.chan_walk.specs.declared.place.Place.{Place}
-use Rattle.chan_deck.specs.Notes.{GrewBy, adjoin, joined_from, number_of_hangs, together}
-use Rattle.chan_deck.specs.Notes.{with_neighbours_joined}
+use Rattle.chan_deck.specs.Notes.{HasNotesAdded, areas_adjoin, joined_from, number_of_hangs}
+use Rattle.chan_deck.specs.Notes.{joined_area, with_neighbours_joined}
 
-no_longer : (count : ℕ) (old mid new : List ℕ) → 0 < count → GrewBy count old mid → length mid ≤ length new → length old < length new
+no_longer : (count : ℕ) (old mid new : List ℕ) → 0 < count → HasNotesAdded count old mid → length mid ≤ length new → length old < length new
 no_longer count old mid new some before kept = let grew : length old < length mid = before.some some in omega (arith, grew, kept)
 
 -- after the notes that are written comes the line that counts the others, if there are any
 pub all_grew : (count written : ℕ) (old mid new : List ℕ) → (count ≡ 0 → written ≡ 0) → (0 < count → 0 < written)
-    → GrewBy written old mid → (count ≡ 0 → new ≡ mid) → length mid ≤ length new → GrewBy count old new
+    → HasNotesAdded written old mid → (count ≡ 0 → new ≡ mid) → length mid ≤ length new → HasNotesAdded count old new
 all_grew count written old mid new few some before same kept = record {
   none = λ none. same none ∙ before.none (few none);
   some = λ many. no_longer written old mid new (some many) before kept;
@@ -24,7 +23,7 @@ either false xs ys some other = other
 
 joined : (a : Area) (rest : List Area) → 0 < length (joined_from a rest)
 joined a [] = omega arith
-joined a (b ∷ rest) = either (adjoin a b) (joined_from (together a b) rest) (a ∷ joined_from b rest) (joined (together a b) rest) (omega arith)
+joined a (b ∷ rest) = either (areas_adjoin a b) (joined_from (joined_area a b) rest) (a ∷ joined_from b rest) (joined (joined_area a b) rest) (omega arith)
 
 -- with neighbours joined, some areas are some, and none are none
 pub joined_some : (areas : List Area) → 0 < length areas → 0 < length (with_neighbours_joined areas)
@@ -36,7 +35,7 @@ joined_none [] none = refl
 joined_none (a ∷ rest) none = absurd (omega (arith, none))
 
 -- a text that stays empty grew by nothing, and was empty before
-pub grew_none : (count : ℕ) (old new : List ℕ) → GrewBy count old new → new ≡ [] → (count ≡ 0) × (old ≡ [])
+pub grew_none : (count : ℕ) (old new : List ℕ) → HasNotesAdded count old new → new ≡ [] → (count ≡ 0) × (old ≡ [])
 grew_none zero old new grew none = (refl, sym (grew.none refl) ∙ none)
 grew_none (suc n) old new grew none = absurd (omega (arith, grew.some (omega arith), ap length none))
 

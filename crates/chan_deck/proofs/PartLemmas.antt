@@ -1,5 +1,5 @@
 -- The parts of a deck: its areas, and the storage of an image.
-use Rattle.std.proofs.Common.{◌≡◌, ℕ, zero, suc, ◌+◌, ◌-◌, ◌*◌, ◌/◌, ◌%◌, ◌<◌, ◌≤◌, ◌^◌, true, List}
+use Rattle.std.proofs.Common.{◌≡◌, ℕ, zero, suc, ◌+◌, ◌-◌, ◌*◌, ◌/◌, ◌%◌, ◌<◌, ◌≤◌, true, List}
 use Rattle.std.proofs.Common.{[], ◌∷◌, ◌++◌, Result, Ok, Err, IfOk, OnOk, length, get_or, take}
 use Rattle.std.proofs.Common.{drop, sym, ap, ◌∙◌, append_assoc, arith, length-append}
 use Rattle.std.specs.Int.{next_multiple_of}
@@ -11,10 +11,11 @@ use Rattle.ckd_core.specs.Mask.{is_mask}
 use Rattle.chan_walk.proofs.Theory.Lists.{all_append}
 use Rattle.chan_deck.specs.Image.{HasLimit, IsDeck}
 use Rattle.chan_deck.specs.Item.{IsByte}
-use Rattle.chan_deck.specs.Parts.{HasShortAddresses, image_of_parts, storage_with, version_with}
-use Rattle.chan_deck.specs.Parts.{zeros}
+use Rattle.chan_deck.specs.PartsImage.{HasShortAddresses, image_of_parts, storage_with}
+use Rattle.chan_deck.specs.PartsImage.{version_with, zeros}
 use Rattle.chan_deck.specs.declared.parts.Parts.{Parts}
 use Rattle.chan_deck.proofs.StepLemmas.{bytes_pad, bytes_zeros}
+use Rattle.ccw_core.specs.declared.ccw.TheConstants.{STORAGE_LIMIT}
 
 -- an image that was put into zeros, with what stands before and behind it
 pub storage_is : (at : ℕ) (image bytes : List ℕ)
@@ -49,8 +50,8 @@ doublewords_are at image =
     ∙ ap (λ m. (zeros at ++ image) ++ zeros m) end
 
 -- the doublewords of an image end in storage where it does
-pub doublewords_fit : (at n len : ℕ) → at + n ≤ 2 ^ 24 → len ≡ next_multiple_of (at % 8 + n) 8
-    → 8 * (at / 8) + len ≤ 2 ^ 24
+pub doublewords_fit : (at n len : ℕ) → at + n ≤ STORAGE_LIMIT → len ≡ next_multiple_of (at % 8 + n) 8
+    → 8 * (at / 8) + len ≤ STORAGE_LIMIT
 doublewords_fit at n len le e = omega (arith, e, le)
 
 pub all_bytes : (bytes : List ℕ) → ((i : ℕ) → get_or bytes i 0 < 256) → AllByRecursion IsByte bytes
@@ -67,7 +68,7 @@ length_storage at image =
     omega (arith, all, length-append front (zeros rest), length-replicate {A = ℕ} rest 0)
 
 -- parts whose image isn't too long, and whose numbers have six digits, make a deck
-pub parts_deck : (p : Parts) → p.at + length p.image.now ≤ 2 ^ 24 → HasShortAddresses p
+pub parts_deck : (p : Parts) → p.at + length p.image.now ≤ STORAGE_LIMIT → HasShortAddresses p
     → HasLimit (version_with p.limit) → IsByte p.mask × (is_mask p.mask ≡ true)
     → AreExtents p.extents.now → AllByRecursion IsByte p.image.now → IsDeck (image_of_parts p)
 parts_deck p short right limited masked cylinders bytes =
@@ -99,8 +100,8 @@ behind_zeros items at image (Ok t) e = ap (λ bytes. zeros (8 * (at / 8)) ++ byt
 behind_zeros items at image (Err x) e = tt
 
 pub end_in_storage : {T E : Type 0} (items : T → List ℕ) (at : ℕ) (image : List ℕ) (r : Result T E)
-    → at + length image ≤ 2 ^ 24 → IfOk r (λ t. items t ≡ storage_with (at % 8) image)
-    → IfOk r (λ t. 8 * (at / 8) + length (items t) ≤ 2 ^ 24)
+    → at + length image ≤ STORAGE_LIMIT → IfOk r (λ t. items t ≡ storage_with (at % 8) image)
+    → IfOk r (λ t. 8 * (at / 8) + length (items t) ≤ STORAGE_LIMIT)
 end_in_storage items at image (Ok t) short e =
     doublewords_fit at (length image) (length (items t)) short (ap length e ∙ length_storage (at % 8) image)
 end_in_storage items at image (Err x) short e = tt
@@ -112,5 +113,5 @@ on_ok (Err e) a = tt
 
 -- storage in which an image ends isn't too large
 pub storage_fits : (at : ℕ) (image storage : List ℕ) → storage ≡ storage_with at image
-    → at + length image ≤ 2 ^ 24 → length storage ≤ 2 ^ 24
+    → at + length image ≤ STORAGE_LIMIT → length storage ≤ STORAGE_LIMIT
 storage_fits at image storage is short = omega (arith, ap length is ∙ length_storage at image, short)

@@ -10,7 +10,7 @@ use Rattle.std.specs.List.{flat_map}
 use Rattle.std.proofs.KnownBytes.{Appends-nil, Appends-trans}
 use Rattle.ccw_core.proofs.Prefixes.{prefix_of_more, prefix_after}
 use Rattle.ccw_core.specs.Written.{AppendsPrefix}
-use Rattle.chan_deck.specs.Pieces.{IsHeldBack, AppendsInPieces, BreaksOff}
+use Rattle.chan_deck.specs.WrittenInPieces.{IsHeldBack, AppendsInPieces, BreaksOff}
 
 -- a text of which nothing was written
 pub all_held : {a : Option (List ℕ)} {text held : List ℕ} → held ≡ text → IsHeldBack a a text held

@@ -7,7 +7,7 @@ use Rattle.std.proofs.lemmas.Bool.Decides.{nat_tests}
 use Rattle.std.proofs.lemmas.List.{append-nil, length-map, map-append}
 use Rattle.std.proofs.Math.Seq.{take-append_seam, drop-append_seam}
 use Rattle.chan_walk.proofs.Theory.Lists.{all_append}
-use Rattle.chan_deck.specs.Item.{Item, line, text, HasForm, IsSaid}
+use Rattle.chan_deck.specs.Item.{Item, line, text, HasForm, LineSaysIfAny}
 use Rattle.chan_deck.specs.Image.{Image, items, Spells}
 use Rattle.chan_deck.specs.Refused.{split, lines, IsRefusedAt, Found, whole_line, part, found_in}
 use Rattle.chan_deck.specs.Refused.{found_behind, AreSaid, IsDeckCause, IsRefused, rank}
@@ -32,7 +32,7 @@ starts t = record { said = []; forms = tt; runs = refl; parts = refl; number = r
 
 -- a line that is taken
 pub takes : (t : List ℕ) (s next : State) (n : ℕ) (rest l after : List ℕ) (o : Option Item)
-    → HasRead t s n rest → split rest ≡ (l ∷ (split after).0, (split after).1) → IsSaid l o
+    → HasRead t s n rest → split rest ≡ (l ∷ (split after).0, (split after).1) → LineSaysIfAny l o
     → after_line s o ≡ Ok next → HasRead t next (n + 1) after
 takes t s next n rest l after None st e none goes = absurd cc
 takes t s next n rest l after (Some i) st e says goes = record {
@@ -75,7 +75,7 @@ with_cause t s n rest found c st e h = (
 
 -- a line that is refused
 pub refuses_line : (t : List ℕ) (s : State) (n : ℕ) (rest l after : List ℕ) (o : Option Item) (c : Cause)
-    → HasRead t s n rest → split rest ≡ (l ∷ (split after).0, (split after).1) → IsSaid l o
+    → HasRead t s n rest → split rest ≡ (l ∷ (split after).0, (split after).1) → LineSaysIfAny l o
     → after_line s o ≡ Err c → IsRefused t n c
 refuses_line t s n rest l after o c st e said bad =
     let all = all_refused s l o c said bad in

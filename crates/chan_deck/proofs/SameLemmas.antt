@@ -12,8 +12,8 @@ use Rattle.ckd_core.specs.declared.device.Device.TheVariants.{D2311, D2314}
 use Rattle.chan_deck.specs.Image.{Image, version_number, limit_of}
 use Rattle.chan_deck.specs.declared.version.Version.{Version}
 use Rattle.chan_deck.specs.declared.version.Version.TheVariants.{One, Two}
-use Rattle.chan_deck.specs.Same.{model_of, same_areas, same_versions, same_decks}
-use Rattle.chan_deck.specs.Same.{same_decks-IsEquivalence}
+use Rattle.chan_deck.specs.SameDecks.{model_of, same_areas, same_versions, same_decks}
+use Rattle.chan_deck.specs.SameDecks.{same_decks-IsEquivalence}
 
 abbrev pair : ℕ → ℕ → ℕ × ℕ
 pair a b = (a, b)

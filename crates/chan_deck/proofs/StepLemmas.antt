@@ -1,5 +1,5 @@
 -- What has been said where reading stands, and that a step says one line more.
-use Rattle.std.proofs.Common.{◌≡◌, ℕ, zero, suc, ◌+◌, ◌-◌, ◌/◌, ◌%◌, ◌^◌, ◌<◌, ◌≤◌, true, false}
+use Rattle.std.proofs.Common.{◌≡◌, ℕ, zero, suc, ◌+◌, ◌-◌, ◌/◌, ◌%◌, ◌<◌, ◌≤◌, true, false}
 use Rattle.std.proofs.Common.{ltb, List, [], ◌∷◌, ◌++◌, length, map, Result, Ok, Option, Some, None}
 use Rattle.std.proofs.Common.{refl, sym, ap, subst, ◌∙◌, append_assoc, arith, replicate}
 use Rattle.std.proofs.Common.{length-append, lit<, ◌&&◌}
@@ -30,6 +30,8 @@ use Rattle.chan_deck.specs.declared.version.Version.TheVariants.{One, Two}
 use Rattle.chan_deck.specs.declared.version.VersionNumber.{VersionNumber}
 use Rattle.chan_deck.specs.declared.version.VersionNumber.TheVariants as numbers
 use Rattle.chan_deck.specs.declared.cause.Cause.{Cause}
+use Rattle.ckd_core.specs.declared.device.TheConstants.{LAST_CYLINDER}
+use Rattle.ccw_core.specs.declared.ccw.TheConstants.{STORAGE_LIMIT}
 
 -- ---- what has been said
 
@@ -122,9 +124,9 @@ last_of-push [] i = refl
 last_of-push (j ∷ []) i = refl
 last_of-push (j ∷ k ∷ is) i = last_of-push (k ∷ is) i
 
-pub size_parts : (n : ℕ) → is_size n ≡ true → (n % 8 ≡ 0) × (n ≤ 2 ^ 24)
+pub size_parts : (n : ℕ) → is_size n ≡ true → (n % 8 ≡ 0) × (n ≤ STORAGE_LIMIT)
 size_parts n e =
-    let t = and_parts (n % 8 == 0) (nat_le n 0x1000000) e in
+    let t = and_parts (n % 8 == 0) (nat_le n STORAGE_LIMIT) e in
     (eqb-true _ _ t.0, leb-true _ _ t.1)
 
 pub limit_parts : (n : ℕ) → is_limit n ≡ true → IsLimit n
@@ -170,7 +172,7 @@ extent_more h es first last are =
     let s = Listing h es [] [] in
     let i = extent first last in
     cond_both (ltb last first) _ _ (Goes s i) (λ _. tt) (λ ordered.
-    cond_both (ltb 202 last) _ _ (Goes s i) (λ _. tt) (λ inside. (
+    cond_both (ltb LAST_CYLINDER last) _ _ (Goes s i) (λ _. tt) (λ inside. (
       record {
         heading = are.heading;
         after = come_more es (first, last) [] [];

@@ -8,7 +8,7 @@ use Rattle.ccw_core.specs.declared.areas.Area.{Area}
 use Rattle.chan_deck.specs.Item.{Item, area_digits, header, device, mask, start, fetch, store}
 use Rattle.chan_deck.specs.Item.{storage, put, end, line, text}
 use Rattle.chan_deck.specs.Image.{Image, extent_of, is_zero, puts, spelling, header_of, limit_line}
-use Rattle.chan_needs.specs.Rows.{Listed}
+use Rattle.chan_needs.specs.Listed.{Listed}
 use Rattle.chan_deck.specs.Needs.{granting, in_six_digits, keep_line, needs_text}
 use Rattle.chan_deck.proofs.FrontLemmas.{text-append}
 use Rattle.chan_deck.proofs.PutLemmas.{puts-append, puts-zero}

@@ -4,7 +4,7 @@ use Rattle.std.specs.Prelude.{◌≡◌, ◌++◌, ◌==◌, ◌||◌, ◌∷◌
 use Rattle.std.specs.Prelude.{Option, None, Some, if◌then◌else◌}
 use Rattle.std.specs.List.{flat_map}
 use Rattle.chan_walk.specs.declared.verdict.Verdict.{Verdict}
-use Rattle.chan_deck.specs.Texts.{verdict_words}
+use Rattle.chan_deck.specs.VerdictLine.{verdict_words}
 
 -- a byte of a name in a label: a backslash comes before a quote and before a backslash, and a byte
 -- that isn't ASCII is drawn as a question mark

@@ -1,5 +1,5 @@
 -- What a deck holds, and its one text.
-use Rattle.std.specs.Prelude.{ℕ, zero, suc, ◌+◌, ◌/◌, ◌%◌, ◌≤◌, ◌^◌, ◌≡◌, ◌==◌, ◌&&◌, Bool, true}
+use Rattle.std.specs.Prelude.{ℕ, zero, suc, ◌+◌, ◌/◌, ◌%◌, ◌≤◌, ◌≡◌, ◌==◌, ◌&&◌, Bool, true}
 use Rattle.std.specs.Prelude.{List, [], ◌∷◌, ◌++◌, length, take, drop, map, if◌then◌else◌}
 use Rattle.std.specs.List.{AllByRecursion}
 use Rattle.ccw_core.specs.declared.areas.Area.{Area}
@@ -13,6 +13,7 @@ use Rattle.chan_deck.specs.declared.version.VersionNumber.{VersionNumber}
 use Rattle.chan_deck.specs.declared.version.VersionNumber.TheVariants as numbers
 use Rattle.chan_deck.specs.declared.version.Version.{Version}
 use Rattle.chan_deck.specs.declared.version.Version.TheVariants.{One, Two}
+use Rattle.ccw_core.specs.declared.ccw.TheConstants.{STORAGE_LIMIT}
 
 -- the number of a version
 abbrev pub version_number : Version → ℕ
@@ -50,7 +51,7 @@ pub record IsDeck (d : Image) : Type 0 where
   pub extents : AreExtents d.extents
   pub fetch : AllByRecursion IsArea d.fetch
   pub store : AllByRecursion IsArea d.store
-  pub size : length d.storage ≤ 2 ^ 24
+  pub size : length d.storage ≤ STORAGE_LIMIT
   pub whole : length d.storage % 8 ≡ 0
   pub bytes : AllByRecursion IsByte d.storage
 

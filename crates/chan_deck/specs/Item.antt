@@ -11,6 +11,7 @@ use Rattle.chan_deck.specs.declared.item.Item as said
 use Rattle.chan_deck.specs.declared.item.Item.TheVariants as found
 use Rattle.chan_deck.specs.declared.version.VersionNumber.{VersionNumber}
 use Rattle.chan_deck.specs.declared.version.VersionNumber.TheVariants as numbers
+use Rattle.ccw_core.specs.declared.ccw.TheConstants.{STORAGE_LIMIT}
 
 -- what a line says
 pub data Item : Type 0 where
@@ -81,7 +82,7 @@ IsByte b = b < 256
 
 -- what an address has digits for
 abbrev pub IsAddress : ℕ → Type 0
-IsAddress a = a < 2 ^ 24
+IsAddress a = a < STORAGE_LIMIT
 
 abbrev pub IsArea : Area → Type 0
 IsArea a = IsAddress a.start × IsAddress a.len
@@ -105,8 +106,8 @@ HasForm (put a word) = IsAddress a × IsWord word
 HasForm end = Unit {0}
 
 -- the line says this
-abbrev pub Says : List ℕ → Item → Type 0
-Says l i = HasForm i × (l ≡ line i)
+abbrev pub LineSays : List ℕ → Item → Type 0
+LineSays l i = HasForm i × (l ≡ line i)
 
 -- what an item of the reader says, if it says something
 abbrev pub said_by : said.Item → Option Item
@@ -135,12 +136,12 @@ HasDecimals (found.Extent first last) = (first < 1000) × (last < 1000)
 HasDecimals i = Unit {0}
 
 -- the line says this, or nothing
-abbrev pub IsSaid : List ℕ → Option Item → Type 0
-IsSaid l o = MatchOption o ((i : Item) → Says l i → ⊥) (λ i. Says l i)
+abbrev pub LineSaysIfAny : List ℕ → Option Item → Type 0
+LineSaysIfAny l o = MatchOption o ((i : Item) → LineSays l i → ⊥) (λ i. LineSays l i)
 
 -- this was read of the line
-abbrev pub Reads : List ℕ → said.Item → Type 0
-Reads l i = (i ≢ found.Missing) × IsSaid l (said_by i)
+abbrev pub LineReads : List ℕ → said.Item → Type 0
+LineReads l i = (i ≢ found.Missing) × LineSaysIfAny l (said_by i)
 
 -- lines as a text: each has a line feed at its end
 abbrev pub text : List (List ℕ) → List ℕ

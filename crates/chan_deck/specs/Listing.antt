@@ -13,7 +13,7 @@ use Rattle.chan_walk.specs.declared.verdict.Verdict.{Verdict}
 use Rattle.chan_walk.specs.declared.verdict.Verdict.TheVariants.{Yes, No}
 use Rattle.chan_walk.specs.Look.{Seen}
 use Rattle.chan_walk.specs.Place.{is_fresh}
-use Rattle.chan_deck.specs.Texts.{address_text, verdict_line}
+use Rattle.chan_deck.specs.VerdictLine.{address_text, verdict_line}
 
 -- how a CCW is entered: by a new operation, or by the data chain of one that stores, fetches or
 -- searches

@@ -1,11 +1,12 @@
 -- What a program needs as text: the lines of a deck that grant it, and one for each area that is
 -- kept.
-use Rattle.std.specs.Prelude.{ℕ, ◌^◌, ◌==◌, List, [], ◌∷◌, ◌++◌, codes, map, if◌then◌else◌}
+use Rattle.std.specs.Prelude.{ℕ, ◌==◌, List, [], ◌∷◌, ◌++◌, codes, map, if◌then◌else◌}
 use Rattle.std.specs.List.{flat_map}
 use Rattle.ccw_core.specs.declared.areas.Area.{Area}
-use Rattle.chan_needs.specs.Rows.{Listed}
+use Rattle.chan_needs.specs.Listed.{Listed}
 use Rattle.chan_deck.specs.Image.{extent_of}
 use Rattle.chan_deck.specs.Item.{Item, area_digits, fetch, line, mask, store, text}
+use Rattle.ccw_core.specs.declared.ccw.TheConstants.{STORAGE_LIMIT}
 
 -- all of the largest storage, as two areas: six digits hold no length of 1000000
 abbrev pub halves : List Area
@@ -13,7 +14,7 @@ halves = (record { start = 0; len = 0xFFFFFF }) ∷ (record { start = 0xFFFFFF; 
 
 -- an area of storage in six digits
 abbrev pub six_digit_parts : Area → List Area
-six_digit_parts a = if a.len == 2 ^ 24 then halves else a ∷ []
+six_digit_parts a = if a.len == STORAGE_LIMIT then halves else a ∷ []
 
 -- areas of storage in six digits: the same bytes
 abbrev pub in_six_digits : List Area → List Area

@@ -11,18 +11,18 @@ use Rattle.chan_deck.specs.Item.{size_digits}
 use Rattle.chan_deck.specs.declared.notes.TheConstants as texts
 
 -- an area begins where another ends, and both together have a length that an area may have
-abbrev pub adjoin : Area → Area → Bool
-adjoin a b = nat_eq (a.start + a.len) b.start && nat_lt (a.len + b.len) 4294967296
+abbrev pub areas_adjoin : Area → Area → Bool
+areas_adjoin a b = nat_eq (a.start + a.len) b.start && nat_lt (a.len + b.len) 4294967296
 
 -- the two as one area
-abbrev pub together : Area → Area → Area
-together a b = record { start = a.start; len = a.len + b.len }
+abbrev pub joined_area : Area → Area → Area
+joined_area a b = record { start = a.start; len = a.len + b.len }
 
 -- an area and those behind it, neighbours that adjoin as one
 abbrev pub joined_from : Area → List Area → List Area
 joined_from a [] = a ∷ []
 joined_from a (b ∷ bs) =
-    if adjoin a b then joined_from (together a b) bs else a ∷ joined_from b bs
+    if areas_adjoin a b then joined_from (joined_area a b) bs else a ∷ joined_from b bs
 
 -- areas, neighbours that adjoin as one
 abbrev pub with_neighbours_joined : List Area → List Area
@@ -30,7 +30,7 @@ with_neighbours_joined [] = []
 with_neighbours_joined (a ∷ rest) = joined_from a rest
 
 -- a text to which so many notes were added: without any it is as it was, and else longer
-pub record GrewBy (count : ℕ) (old new : List ℕ) : Type 0 where
+pub record HasNotesAdded (count : ℕ) (old new : List ℕ) : Type 0 where
   pub none : count ≡ 0 → new ≡ old
   pub some : 0 < count → length old < length new
 

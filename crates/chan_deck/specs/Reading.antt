@@ -28,6 +28,7 @@ use Rattle.chan_deck.specs.declared.lists.Listed.{Listed}
 use Rattle.chan_deck.specs.declared.lists.Listed.TheVariants.{Taken, Storage, Refused}
 use Rattle.chan_deck.specs.declared.error.DeckError.{DeckError}
 use Rattle.chan_deck.specs.declared.error.DeckError.TheVariants as errors
+use Rattle.ckd_core.specs.declared.device.TheConstants.{LAST_CYLINDER}
 
 -- what the lines so far said; in Started a limit has to come, and in Filling storage is known as
 -- far as the last put reaches
@@ -81,7 +82,7 @@ on_limit v m a n =
 abbrev pub on_extent : Heading → List (ℕ × ℕ) → ℕ → ℕ → Result State Cause
 on_extent h es first last =
     if nat_lt last first then Err causes.ExtentBackwards
-    else if nat_lt 202 last then Err causes.ExtentPastDevice
+    else if nat_lt LAST_CYLINDER last then Err causes.ExtentPastDevice
     else Ok (Listing h (es ++ (first, last) ∷ []) [] [])
 
 -- the line of storage ends the lists, if storage may have so many bytes
@@ -171,17 +172,18 @@ abbrev pub HasReadTo : List ℕ → State → Cursor → Type 0
 HasReadTo t s c = HasRead t s (c.line + 1) c.rest.now
 
 -- wherever reading stands so, it goes on to stand otherwise
-abbrev pub ReadsOn : State → Cursor → State → Cursor → Type 0
-ReadsOn s c next d = (t : List ℕ) → HasReadTo t s c → HasReadTo t next d
+abbrev pub ReadingGoesOn : State → Cursor → State → Cursor → Type 0
+ReadingGoesOn s c next d = (t : List ℕ) → HasReadTo t s c → HasReadTo t next d
 
 -- wherever reading stands so, the error is that of the text, or says that an allocation failed
-abbrev pub Fails : State → Cursor → DeckError → Type 0
-Fails s c e = (t : List ℕ) → HasReadTo t s c → IsDeckError t e
+abbrev pub ReadingFails : State → Cursor → DeckError → Type 0
+ReadingFails s c e = (t : List ℕ) → HasReadTo t s c → IsDeckError t e
 
 -- reading goes on to what is made of what was read, or it fails
 abbrev pub LeadsOrFails : {X : Type 0} → State → Cursor → Result X DeckError → (X → State)
     → Cursor → Type 0
-LeadsOrFails s c result next d = MatchResult result (λ x. ReadsOn s c (next x) d) (Fails s c)
+LeadsOrFails s c result next d =
+    MatchResult result (λ x. ReadingGoesOn s c (next x) d) (ReadingFails s c)
 
 -- a deck is whole
 abbrev pub is_whole : State → Bool
@@ -195,15 +197,15 @@ refusal n i cause = errors.At n cause
 
 -- the next line of the text says this, or has none of the forms, or none is left
 pub record IsNextLine (c : Cursor) (i : found.Item) (d : Cursor) : Type 0 where
-  pub takes : (s next : State) → after_line s (said_by i) ≡ Ok next → ReadsOn s c next d
+  pub takes : (s next : State) → after_line s (said_by i) ≡ Ok next → ReadingGoesOn s c next d
   pub refuses :
       (s : State) (cause : Cause) → is_whole s ≡ false → after_line s (said_by i) ≡ Err cause
-      → Fails s c (refusal d.line i cause)
+      → ReadingFails s c (refusal d.line i cause)
 
 -- fewer bytes are left, if a line was read
-abbrev pub Shortens : ℕ → found.Item → ℕ → Type 0
-Shortens old Missing new = Unit {0}
-Shortens old i new = new < old
+abbrev pub IsLessLeft : ℕ → found.Item → ℕ → Type 0
+IsLessLeft old Missing new = Unit {0}
+IsLessLeft old i new = new < old
 
 -- what the lines of a heading have said so far
 abbrev pub begun_state : Begun → State

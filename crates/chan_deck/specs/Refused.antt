@@ -5,7 +5,7 @@ use Rattle.std.specs.Prelude.{drop, map, if◌then◌else◌, Option, Some, None
 use Rattle.std.specs.List.{AllByRecursion}
 use Rattle.ckd_core.specs.Mask.{is_mask}
 use Rattle.chan_deck.specs.Item.{Item, header, device, mask, start, limit, extent, fetch, store}
-use Rattle.chan_deck.specs.Item.{storage, put, end, line, text, HasForm, Says}
+use Rattle.chan_deck.specs.Item.{storage, put, end, line, text, HasForm, LineSays}
 use Rattle.chan_deck.specs.Image.{Image, Spells, is_zero}
 use Rattle.chan_deck.specs.declared.version.VersionNumber.{VersionNumber}
 use Rattle.chan_deck.specs.declared.version.VersionNumber.TheVariants as numbers
@@ -14,6 +14,8 @@ use Rattle.chan_deck.specs.declared.cause.Cause.TheVariants.{Ended, Header, Form
 use Rattle.chan_deck.specs.declared.cause.Cause.TheVariants.{ExtentBackwards, ExtentPastDevice}
 use Rattle.chan_deck.specs.declared.cause.Cause.TheVariants.{Size, PutAddress, PutZero, After}
 use Rattle.chan_deck.specs.declared.cause.Cause.TheVariants.{Limit}
+use Rattle.ckd_core.specs.declared.device.TheConstants.{LAST_CYLINDER}
+use Rattle.ccw_core.specs.declared.ccw.TheConstants.{STORAGE_LIMIT}
 
 abbrev pub onto_first : ℕ → List (List ℕ) × List ℕ → List (List ℕ) × List ℕ
 onto_first b ([], rest) = ([], b ∷ rest)
@@ -98,7 +100,7 @@ size_said (i ∷ is) = size_said is
 
 -- a number of bytes that storage may have
 abbrev pub is_size : ℕ → Bool
-is_size n = n % 8 == 0 && nat_le n 0x1000000
+is_size n = n % 8 == 0 && nat_le n STORAGE_LIMIT
 
 -- a limit that a job may have
 abbrev pub is_limit : ℕ → Bool
@@ -123,18 +125,18 @@ pub data Found : Type 0 where
 abbrev pub Applies : List Item → Found → Cause → Type 0
 Applies before (part rest) Ended = Unit {0}
 Applies before (whole_line l) Header = (before ≡ []) × ((h : VersionNumber) → l ≢ line (header h))
-Applies before (whole_line l) Form = (i : Item) → Says l i → may_follow before i ≡ false
-Applies before (whole_line l) Mask = (m : ℕ) × Says l (mask m) × (is_mask m ≡ false)
+Applies before (whole_line l) Form = (i : Item) → LineSays l i → may_follow before i ≡ false
+Applies before (whole_line l) Mask = (m : ℕ) × LineSays l (mask m) × (is_mask m ≡ false)
 Applies before (whole_line l) ExtentBackwards =
-    (first : ℕ) × (last : ℕ) × Says l (extent first last) × (last < first)
+    (first : ℕ) × (last : ℕ) × LineSays l (extent first last) × (last < first)
 Applies before (whole_line l) ExtentPastDevice =
-    (first : ℕ) × (last : ℕ) × Says l (extent first last) × (202 < last)
-Applies before (whole_line l) Size = (n : ℕ) × Says l (storage n) × (is_size n ≡ false)
+    (first : ℕ) × (last : ℕ) × LineSays l (extent first last) × (LAST_CYLINDER < last)
+Applies before (whole_line l) Size = (n : ℕ) × LineSays l (storage n) × (is_size n ≡ false)
 Applies before (whole_line l) PutAddress =
-    (a : ℕ) × (word : List ℕ) × Says l (put a word) × (is_place before a ≡ false)
+    (a : ℕ) × (word : List ℕ) × LineSays l (put a word) × (is_place before a ≡ false)
 Applies before (whole_line l) PutZero =
-    (a : ℕ) × (word : List ℕ) × Says l (put a word) × (is_zero word ≡ true)
-Applies before (whole_line l) Limit = (n : ℕ) × Says l (limit n) × (is_limit n ≡ false)
+    (a : ℕ) × (word : List ℕ) × LineSays l (put a word) × (is_zero word ≡ true)
+Applies before (whole_line l) Limit = (n : ℕ) × LineSays l (limit n) × (is_limit n ≡ false)
 Applies before found cause = ⊥
 
 -- behind `end` the cause After alone applies, whatever stands there

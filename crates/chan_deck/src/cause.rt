@@ -14,7 +14,7 @@ pub enum Cause {
     Mask,
     /// The extent's first cylinder is above its last.
     ExtentBackwards,
-    /// The extent's last cylinder is above 202.
+    /// The extent's last cylinder is past the device's last.
     ExtentPastDevice,
     /// The number of bytes of storage isn't a multiple of 8, or is above 16,777,216.
     Size,

@@ -36,11 +36,11 @@ impl Model for Deck {
 
     ghost Value = { Image };
 
-    ghost use Rattle.chan_deck.specs.Held.{image_held};
+    ghost use Rattle.chan_deck.specs.DeckImage.{image_of_deck};
 
-    ghost view = { image_held };
+    ghost view = { image_of_deck };
 
-    ghost invariant = { λ d. IsDeck (image_held d) };
+    ghost invariant = { λ d. IsDeck (image_of_deck d) };
 }
 
 impl Deck {
@@ -89,7 +89,7 @@ impl Deck {
 
 impl PartialEq for Deck {
     ghost use Rattle.std.specs.Cmp.{partial_equiv_from_equiv};
-    ghost use Rattle.chan_deck.specs.Same.{same_decks, same_decks-IsEquivalence};
+    ghost use Rattle.chan_deck.specs.SameDecks.{same_decks, same_decks-IsEquivalence};
 
     ghost eq = { same_decks };
 
@@ -110,7 +110,7 @@ impl PartialEq for Deck {
 }
 
 impl Eq for Deck {
-    ghost use Rattle.chan_deck.specs.Same.{same_decks-IsEquivalence};
+    ghost use Rattle.chan_deck.specs.SameDecks.{same_decks-IsEquivalence};
 
     ghost laws = { same_decks-IsEquivalence };
 }

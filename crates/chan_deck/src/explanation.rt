@@ -42,8 +42,8 @@ fn push_outside(out: &mut String, range: Area, length: u32) -> Result<(), AllocE
 }
 
 /// Whether two areas have the same bytes.
-fn are_same(one: Area, other: Area) -> bool
-    ensures { result ≡ texts.are_same one other }
+fn have_same_bytes(one: Area, other: Area) -> bool
+    ensures { result ≡ texts.have_same_bytes one other }
 {
     one.start == other.start && one.len == other.len
 }
@@ -53,7 +53,7 @@ fn push_unlent(out: &mut String, range: Area, gap: Area, purpose: &str) -> Resul
     ensures { OnOk result (string_bytes out.new
         ≡ string_bytes out.old ++ texts.unlent_text range gap purpose.now) }
 {
-    if are_same(gap, range) {
+    if have_same_bytes(gap, range) {
         let range = Range(range);
         return write!(out, "none of {range} is lent for {purpose}");
     }
@@ -367,8 +367,8 @@ fn push_second(alloc: Global, out: &mut String, job: &Job, path: &[Place]) -> Re
 }
 
 /// Whether two offences have one address and one reason.
-fn are_alike(one: Offence, other: Offence) -> bool
-    ensures { result ≡ texts.are_alike one other }
+fn offend_alike(one: Offence, other: Offence) -> bool
+    ensures { result ≡ texts.offend_alike one other }
 {
     one.place.address == other.place.address && one.reason.number() == other.reason.number()
 }
@@ -395,7 +395,7 @@ fn push_next(
     ensures { OnOk result (string_bytes out.new
         ≡ string_bytes out.old ++ texts.next_lines before offence cause) }
 {
-    if are_alike(before, offence) {
+    if offend_alike(before, offence) {
         return Ok(());
     }
     push_also(out, offence)?;

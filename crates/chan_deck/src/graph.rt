@@ -3,7 +3,7 @@
 
 ghost use Rattle.std.specs.Prelude.{◌≡◌, ◌++◌, codes, option_map, string_bytes, IfOk, OnOk};
 ghost use Rattle.chan_deck.specs.Graph.{IsPictureOf, escaped, escaped_byte, titled};
-ghost use Rattle.chan_deck.specs.Texts.{verdict_words};
+ghost use Rattle.chan_deck.specs.VerdictLine.{verdict_words};
 
 use crate::explanation::{push_cause, push_setting};
 use crate::layout::{

@@ -3,8 +3,8 @@
 ghost use Rattle.std.specs.Prelude.{◌≡◌, ◌<◌, ℕ, List, [], length, ◌∷◌, ◌++◌, OnOk};
 ghost use Rattle.std.specs.Prelude.{MatchBool, MatchOption};
 ghost use Rattle.std.specs.Int.{w64, to_be_bytes};
-ghost use Rattle.chan_deck.specs.Item.{HasDecimals, IsArea, Reads, Says, area_digits, device};
-ghost use Rattle.chan_deck.specs.Item.{header, limit, mask, put, said_by, spelled, start};
+ghost use Rattle.chan_deck.specs.Item.{HasDecimals, IsArea, LineReads, LineSays, area_digits};
+ghost use Rattle.chan_deck.specs.Item.{device, header, limit, mask, put, said_by, spelled, start};
 ghost use Rattle.chan_deck.specs.Item as item;
 ghost use Rattle.chan_deck.specs.declared.version.VersionNumber.{VersionNumber};
 
@@ -82,8 +82,8 @@ fn two_fields<'a>(line: &'a [u8], word: &[u8], width: usize) -> Option<(&'a [u8]
 /// The version that a header names.
 pub(crate) fn header_of(line: &[u8]) -> Option<VersionNumber>
     ensures { MatchOption result
-        ((h : VersionNumber) → Says line.now (header h) → ⊥)
-        (λ h. Says line.now (header h)) }
+        ((h : VersionNumber) → LineSays line.now (header h) → ⊥)
+        (λ h. LineSays line.now (header h)) }
 {
     if is_word(line, b"chanv deck 1") {
         Some(VersionNumber::One)
@@ -96,8 +96,8 @@ pub(crate) fn header_of(line: &[u8]) -> Option<VersionNumber>
 
 fn device_of(line: &[u8]) -> Option<Device>
     ensures { MatchOption result
-        ((d : Device) → Says line.now (device d) → ⊥)
-        (λ d. Says line.now (device d)) }
+        ((d : Device) → LineSays line.now (device d) → ⊥)
+        (λ d. LineSays line.now (device d)) }
 {
     if is_word(line, b"device 2311") {
         Some(Device::D2311)
@@ -110,8 +110,8 @@ fn device_of(line: &[u8]) -> Option<Device>
 
 fn mask_of(line: &[u8]) -> Option<u8>
     ensures { MatchOption result
-        ((n : ℕ) → Says line.now (mask n) → ⊥)
-        (λ n. Says line.now (mask n)) }
+        ((n : ℕ) → LineSays line.now (mask n) → ⊥)
+        (λ n. LineSays line.now (mask n)) }
 {
     let digits = behind(line, b"mask ")?;
     byte_of(digits)
@@ -119,8 +119,8 @@ fn mask_of(line: &[u8]) -> Option<u8>
 
 fn start_of(line: &[u8]) -> Option<u32>
     ensures { MatchOption result
-        ((n : ℕ) → Says line.now (start n) → ⊥)
-        (λ n. Says line.now (start n)) }
+        ((n : ℕ) → LineSays line.now (start n) → ⊥)
+        (λ n. LineSays line.now (start n)) }
 {
     let digits = behind(line, b"start ")?;
     address_of(digits)
@@ -129,8 +129,8 @@ fn start_of(line: &[u8]) -> Option<u32>
 /// The number of places.
 fn limit_of(line: &[u8]) -> Option<u32>
     ensures { MatchOption result
-        ((n : ℕ) → Says line.now (limit n) → ⊥)
-        (λ n. Says line.now (limit n)) }
+        ((n : ℕ) → LineSays line.now (limit n) → ⊥)
+        (λ n. LineSays line.now (limit n)) }
 {
     let digits = behind(line, b"limit ")?;
     places_of(digits)
@@ -139,8 +139,8 @@ fn limit_of(line: &[u8]) -> Option<u32>
 /// First and last cylinder.
 fn extent_of(line: &[u8]) -> Option<(u16, u16)>
     ensures { MatchOption result
-        ((first last : ℕ) → Says line.now (item.extent first last) → ⊥)
-        (λ pair. Says line.now (item.extent pair.0 pair.1)) }
+        ((first last : ℕ) → LineSays line.now (item.extent first last) → ⊥)
+        (λ pair. LineSays line.now (item.extent pair.0 pair.1)) }
 {
     let (first, last) = two_fields(line, b"extent ", 3)?;
     let first = cylinder_of(first)?;
@@ -163,8 +163,8 @@ fn area_of(line: &[u8], word: &[u8]) -> Option<Area>
 /// The number of bytes of storage.
 pub(crate) fn storage_of(line: &[u8]) -> Option<u32>
     ensures { MatchOption result
-        ((n : ℕ) → Says line.now (item.storage n) → ⊥)
-        (λ n. Says line.now (item.storage n)) }
+        ((n : ℕ) → LineSays line.now (item.storage n) → ⊥)
+        (λ n. LineSays line.now (item.storage n)) }
 {
     let digits = behind(line, b"storage ")?;
     size_of(digits)
@@ -173,8 +173,8 @@ pub(crate) fn storage_of(line: &[u8]) -> Option<u32>
 /// The address of a put, and its eight bytes as a number.
 pub(crate) fn put_of(line: &[u8]) -> Option<(u32, u64)>
     ensures { MatchOption result
-        ((a : ℕ) (word : List ℕ) → Says line.now (put a word) → ⊥)
-        (λ found. Says line.now (put found.0 (to_be_bytes w64 found.1))) }
+        ((a : ℕ) (word : List ℕ) → LineSays line.now (put a word) → ⊥)
+        (λ found. LineSays line.now (put found.0 (to_be_bytes w64 found.1))) }
 {
     if line.len() != PUT_LINE {
         return None;
@@ -187,8 +187,8 @@ pub(crate) fn put_of(line: &[u8]) -> Option<(u32, u64)>
 
 /// What a line says, if it isn't a put.
 fn other_item(line: &[u8]) -> Item
-    requires { (a : ℕ) (word : List ℕ) → Says line.now (put a word) → ⊥ }
-    ensures { Reads line.now result }
+    requires { (a : ℕ) (word : List ℕ) → LineSays line.now (put a word) → ⊥ }
+    ensures { LineReads line.now result }
 {
     if let Some((first, last)) = extent_of(line) {
         return Item::Extent(first, last);
@@ -227,7 +227,7 @@ impl Item {
     /// What a line says. Inline, so that a loop over puts takes them apart at once.
     #[inline(always)]
     pub(crate) fn read(line: &[u8]) -> Item
-        ensures { Reads line.now result }
+        ensures { LineReads line.now result }
     {
         match put_of(line) {
             Some((address, word)) => Item::Put(address, word),

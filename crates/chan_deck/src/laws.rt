@@ -3,7 +3,7 @@
 ghost use Rattle.std.specs.Prelude.{◌≡◌, ℕ, true, List};
 ghost use Rattle.chan_deck.specs.Image.{Image, Spells};
 ghost use Rattle.chan_deck.specs.Refused.{IsDeckOrRefused, IsRefused};
-ghost use Rattle.chan_deck.specs.Same.{same_decks};
+ghost use Rattle.chan_deck.specs.SameDecks.{same_decks};
 ghost use Rattle.chan_deck.specs.declared.cause.Cause.{Cause};
 
 /// No text spells two decks, and no deck has two texts.

@@ -280,7 +280,7 @@ pub(crate) fn layout_of(
     let looks = scene.looks;
     let ways = ways_in(alloc, first, scene)?;
     let framed = framed_rows(alloc, scene)?;
-    let is_apart = |at: usize, row: &Row| {
+    let stands_alone = |at: usize, row: &Row| {
         framed.get(at).copied().unwrap_or(true) || offends(offences, row.look.place())
     };
     let mut heads: Vec<Option<usize>> = Vec::new(alloc);
@@ -296,10 +296,10 @@ pub(crate) fn layout_of(
             numbers.push(0)?;
             continue;
         };
-        let apart = is_apart(at, &row);
+        let is_alone = stands_alone(at, &row);
         let head = match open {
             Some((before, head))
-                if !apart && leads_straight(&before, at) && ways.get(at).copied() == Some(1) => {
+                if !is_alone && leads_straight(&before, at) && ways.get(at).copied() == Some(1) => {
                 head
             }
             _ => {
@@ -312,7 +312,7 @@ pub(crate) fn layout_of(
             numbers.push(lengths[head])?;
             lengths[head] = lengths[head].saturating_add(1);
         }
-        open = if apart { None } else { Some((row, head)) };
+        open = if is_alone { None } else { Some((row, head)) };
     }
     Ok(Layout {
         heads,

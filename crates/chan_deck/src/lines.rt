@@ -78,7 +78,7 @@ impl<'a> Cursor<'a> {
     ghost use Rattle.std.specs.Prelude.{ℕ, List, MatchResult};
     ghost use Rattle.chan_deck.specs.Image.{Image, Spells};
     ghost use Rattle.chan_deck.specs.Reading.{IsNextLine, IsDeckError, HasReadTo, Opening};
-    ghost use Rattle.chan_deck.specs.Reading.{Shortens};
+    ghost use Rattle.chan_deck.specs.Reading.{IsLessLeft};
     ghost use Rattle.chan_deck.specs.Reading.{Whole, refusal};
     ghost use Rattle.chan_deck.specs.declared.error.DeckError.TheVariants as errors;
 
@@ -97,7 +97,7 @@ impl<'a> Cursor<'a> {
     #[inline(always)]
     pub(crate) fn next_item(&mut self) -> Item
         ensures next { IsNextLine self.old result self.new }
-        ensures shorter { Shortens (length self.old.rest.now) result
+        ensures shorter { IsLessLeft (length self.old.rest.now) result
             (length self.new.rest.now) }
     {
         let Some((line, rest)) = next_line(self.rest) else {

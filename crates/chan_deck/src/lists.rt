@@ -10,12 +10,9 @@ use crate::cause::Cause;
 use crate::error::DeckError;
 use crate::item::Item;
 use crate::lines::Cursor;
-use ccw_core::Area;
+use ccw_core::{Area, STORAGE_LIMIT};
 use ckd_core::LAST_CYLINDER;
 use std::alloc::{AllocError, Global};
-
-/// The most bytes that storage may have: addresses have 24 bits.
-pub(crate) const STORAGE_LIMIT: u32 = 16_777_216;
 
 /// The lists of a deck, as far as they have been read.
 #[derive(Drop)]

@@ -3,16 +3,15 @@
 ghost use Rattle.std.specs.Prelude.{◌≡◌, [], ◌∷◌, ◌++◌, map, IfOk, OnOk};
 ghost use Rattle.std.specs.List.{AllByRecursion};
 ghost use Rattle.ckd_core.specs.Extents.{IsExtent};
-ghost use Rattle.chan_needs.specs.Rows.{listed};
+ghost use Rattle.chan_needs.specs.Listed.{listed, pair};
 ghost use Rattle.chan_deck.specs.Item.{text};
 ghost use Rattle.chan_deck.specs.Needs as texts;
 
 use crate::item::Item;
-use crate::lists::STORAGE_LIMIT;
 use crate::spelling::push_area_digits;
 use crate::writing::{write_extents, write_fetch, write_store};
-use ccw_core::Area;
-use chan_needs::Needs;
+use ccw_core::{Area, STORAGE_LIMIT};
+use chan_needs::{Needs, pairs_of};
 use std::alloc::{AllocError, Global};
 
 /// All of the largest storage, as two areas: six digits aren't enough for its length.
@@ -73,15 +72,16 @@ fn write_kept(alloc: Global, out: &mut Vec<u8>, areas: &[Area]) -> Result<(), Al
 /// `store` of a job that grants just these, and a line `keep` for each area that is kept. An error
 /// means that an allocation failed.
 pub fn needs_text(alloc: Global, needs: &Needs) -> Result<Vec<u8>, AllocError>
-    requires { AllByRecursion IsExtent needs.now.extents.items }
+    requires { AllByRecursion IsExtent (map pair needs.now.extents.items) }
     ensures { IfOk result (λ text. text.items ≡ texts.needs_text (listed needs.now)) }
 {
+    let extents = pairs_of(alloc, &needs.extents)?;
     let fetch = in_six_digits(alloc, &needs.fetch)?;
     let store = in_six_digits(alloc, &needs.store)?;
     let keep = in_six_digits(alloc, &needs.keep)?;
     let mut text = Vec::new(alloc);
     Item::Mask(needs.mask.byte()).push(alloc, &mut text)?;
-    write_extents(alloc, &mut text, &needs.extents)?;
+    write_extents(alloc, &mut text, &extents)?;
     write_fetch(alloc, &mut text, &fetch)?;
     write_store(alloc, &mut text, &store)?;
     write_kept(alloc, &mut text, &keep)?;

@@ -3,8 +3,9 @@
 
 ghost use Rattle.std.specs.Prelude.{◌≡◌, ◌≤◌, ◌↔◌, ◌^◌, [], length, string_bytes, IfOk, OnOk};
 ghost use Rattle.chan_deck.specs.Notes as adjoining;
-ghost use Rattle.chan_deck.specs.Notes.{GrewBy, HasNoNote, exchange_note, number_of_hangs};
+ghost use Rattle.chan_deck.specs.Notes.{HasNotesAdded, HasNoNote, exchange_note, number_of_hangs};
 ghost use Rattle.chan_deck.specs.Notes.{storage_note};
+ghost use Rattle.ccw_core.specs.declared.ccw.TheConstants.{STORAGE_LIMIT};
 
 use crate::listing::way_word;
 use crate::texts::{Address, Digits, Size};
@@ -50,8 +51,8 @@ const STORAGE_ENDS: &str =
 const MOST: usize = 100;
 
 /// Whether an area begins where another ends, and both together are one area.
-fn adjoin(one: Area, other: Area) -> bool
-    ensures { result ≡ adjoining.adjoin one other }
+fn areas_adjoin(one: Area, other: Area) -> bool
+    ensures { result ≡ adjoining.areas_adjoin one other }
 {
     u64::from(one.start) + u64::from(one.len) == u64::from(other.start)
         && u64::from(one.len) + u64::from(other.len) <= u64::from(u32::MAX)
@@ -67,7 +68,7 @@ fn join_neighbours(alloc: Global, areas: &[Area]) -> Result<Vec<Area>, AllocErro
     };
     let mut run = *first;
     for area in rest {
-        if adjoin(run, *area) {
+        if areas_adjoin(run, *area) {
             run.len += area.len;
         } else {
             runs.push(run)?;
@@ -98,7 +99,7 @@ fn push_areas(
     what: &str,
     areas: &[Area],
 ) -> Result<(), AllocError>
-    ensures { OnOk result (GrewBy (length areas.now) (string_bytes out.old)
+    ensures { OnOk result (HasNotesAdded (length areas.now) (string_bytes out.old)
         (string_bytes out.new)) }
 {
     let runs = join_neighbours(alloc, areas)?;
@@ -113,7 +114,7 @@ fn push_areas(
 /// Adds the note on the place from which on the program never ends by itself, if there is one. It
 /// says how the CCW is entered, since the program may end where the same CCW is entered otherwise.
 fn push_hang(out: &mut String, hang: Option<Place>) -> Result<(), AllocError>
-    ensures { OnOk result (GrewBy (number_of_hangs hang) (string_bytes out.old)
+    ensures { OnOk result (HasNotesAdded (number_of_hangs hang) (string_bytes out.old)
         (string_bytes out.new)) }
 {
     if let Some(place) = hang {
@@ -127,7 +128,7 @@ fn push_hang(out: &mut String, hang: Option<Place>) -> Result<(), AllocError>
 /// Adds the notes of a kind on the CCWs at some addresses.
 fn push_ccws(out: &mut String, what: &str, addresses: &[u32]) -> Result<(), AllocError>
     ensures { OnOk result
-        (GrewBy (length addresses.now) (string_bytes out.old) (string_bytes out.new)) }
+        (HasNotesAdded (length addresses.now) (string_bytes out.old) (string_bytes out.new)) }
 {
     for address in &addresses[..addresses.len().min(MOST)] {
         let address = Address(*address);
@@ -139,7 +140,7 @@ fn push_ccws(out: &mut String, what: &str, addresses: &[u32]) -> Result<(), Allo
 /// Adds the notes on the CCWs at some addresses of storage whose byte 5 isn't zero, with that byte.
 fn push_spare(out: &mut String, storage: Storage<'_>, addresses: &[u32]) -> Result<(), AllocError>
     ensures { OnOk result
-        (GrewBy (length addresses.now) (string_bytes out.old) (string_bytes out.new)) }
+        (HasNotesAdded (length addresses.now) (string_bytes out.old) (string_bytes out.new)) }
 {
     for number in &addresses[..addresses.len().min(MOST)] {
         let address = Address(*number);
@@ -217,7 +218,7 @@ pub fn notes_text(
 /// The note on an image of storage whose ends may be wrong: how long storage is, and which options
 /// say so. An error means that an allocation failed.
 pub fn storage_note(alloc: Global, size: u32) -> Result<String, AllocError>
-    requires { size ≤ 2 ^ 24 }
+    requires { size ≤ STORAGE_LIMIT }
     ensures { IfOk result (λ text. string_bytes text ≡ storage_note size) }
 {
     let size = Size(size);

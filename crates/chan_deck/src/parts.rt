@@ -4,8 +4,9 @@ ghost use Rattle.std.specs.Prelude.{◌≡◌, ◌+◌, ◌*◌, ◌/◌, ◌≤
 ghost use Rattle.std.specs.List.{AllByRecursion};
 ghost use Rattle.chan_deck.specs.Image.{Spells};
 ghost use Rattle.chan_deck.specs.Item.{IsByte};
-ghost use Rattle.chan_deck.specs.Parts.{HasShortAddresses, image_of_parts, storage_with};
-ghost use Rattle.chan_deck.specs.Parts.{version_with, zeros};
+ghost use Rattle.chan_deck.specs.PartsImage.{HasShortAddresses, image_of_parts, storage_with};
+ghost use Rattle.chan_deck.specs.PartsImage.{version_with, zeros};
+ghost use Rattle.ccw_core.specs.declared.ccw.TheConstants.{STORAGE_LIMIT};
 
 use crate::storage::write_at;
 use crate::version::Version;
@@ -43,9 +44,9 @@ pub struct Parts<'a> {
 /// Storage in which an image begins at an address. It is zero before the image, and after it up to
 /// a multiple of 8, at which it ends.
 pub fn place_image(alloc: Global, at: usize, image: &[u8]) -> Result<Vec<u8>, AllocError>
-    requires { at + length image.now ≤ 2 ^ 24 }
+    requires { at + length image.now ≤ STORAGE_LIMIT }
     ensures bytes { IfOk result (λ storage. storage.items ≡ storage_with at image.now) }
-    ensures size { IfOk result (λ storage. length storage.items ≤ 2 ^ 24) }
+    ensures size { IfOk result (λ storage. length storage.items ≤ STORAGE_LIMIT) }
 {
     let len = (at + image.len()).next_multiple_of(8);
     let mut storage = vec![in alloc; 0u8; len]?;
@@ -55,10 +56,10 @@ pub fn place_image(alloc: Global, at: usize, image: &[u8]) -> Result<Vec<u8>, Al
 
 /// The doublewords in which an image lies that begins at an address, zero where it has no byte.
 fn doublewords(alloc: Global, at: usize, image: &[u8]) -> Result<Vec<u8>, AllocError>
-    requires { at + length image.now ≤ 2 ^ 24 }
+    requires { at + length image.now ≤ STORAGE_LIMIT }
     ensures bytes { IfOk result (λ bytes. zeros (8 * (at / 8)) ++ bytes.items
         ≡ storage_with at image.now) }
-    ensures size { IfOk result (λ bytes. 8 * (at / 8) + length bytes.items ≤ 2 ^ 24) }
+    ensures size { IfOk result (λ bytes. 8 * (at / 8) + length bytes.items ≤ STORAGE_LIMIT) }
     ensures image { OnOk result (AllByRecursion IsByte image.now) }
 {
     place_image(alloc, at % 8, image)
@@ -81,7 +82,7 @@ fn version_of(limit: Option<Limit>) -> Version
 /// The cost is one pass over the image, whatever its address, and the memory is that of the image
 /// and of the text.
 pub fn parts_text(alloc: Global, parts: &Parts<'_>) -> Result<Vec<u8>, AllocError>
-    requires size { parts.now.at + length parts.now.image.now ≤ 2 ^ 24 }
+    requires size { parts.now.at + length parts.now.image.now ≤ STORAGE_LIMIT }
     requires addresses { HasShortAddresses parts.now }
     ensures { IfOk result (λ text. Spells text.items (image_of_parts parts.now)) }
 {

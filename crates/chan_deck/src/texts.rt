@@ -2,7 +2,7 @@
 
 ghost use Rattle.std.specs.Prelude.{◌≡◌, ◌++◌, IfOk, OnOk, string_bytes};
 ghost use Rattle.hex.specs.Hex.{encode_upper};
-ghost use Rattle.chan_deck.specs.Texts as text;
+ghost use Rattle.chan_deck.specs.VerdictLine as text;
 
 use ccw_core::Area;
 use chan_walk::Verdict;
@@ -37,7 +37,7 @@ pub(crate) struct Address(pub(crate) u32);
 
 impl fmt::Display for Address {
     ghost use Rattle.std.specs.Prelude.{Some};
-    ghost use Rattle.chan_deck.specs.Texts.{address_text};
+    ghost use Rattle.chan_deck.specs.VerdictLine.{address_text};
 
     ghost output = { λ a. Some (address_text a.0) };
 

@@ -52,7 +52,7 @@ impl Version {
 
 impl PartialEq for Version {
     ghost use Rattle.std.specs.Cmp.{partial_equiv_from_equiv};
-    ghost use Rattle.chan_deck.specs.Same.{same_versions, same_versions-IsEquivalence};
+    ghost use Rattle.chan_deck.specs.SameDecks.{same_versions, same_versions-IsEquivalence};
 
     ghost eq = { same_versions };
 
@@ -65,7 +65,7 @@ impl PartialEq for Version {
 }
 
 impl Eq for Version {
-    ghost use Rattle.chan_deck.specs.Same.{same_versions-IsEquivalence};
+    ghost use Rattle.chan_deck.specs.SameDecks.{same_versions-IsEquivalence};
 
     ghost laws = { same_versions-IsEquivalence };
 }

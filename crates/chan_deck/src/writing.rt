@@ -10,7 +10,8 @@ ghost use Rattle.chan_deck.specs.Item.{IsByte, device, header, line, mask, put, 
 ghost use Rattle.chan_deck.specs.Item as item;
 ghost use Rattle.chan_deck.specs.Image.{HasLimit, Spells, extent_of, header_of, is_zero as zeros};
 ghost use Rattle.chan_deck.specs.Image.{limit_line, puts, spelling};
-ghost use Rattle.chan_deck.specs.Preamble.{image_with};
+ghost use Rattle.chan_deck.specs.PreambleImage.{image_of_preamble};
+ghost use Rattle.ccw_core.specs.declared.ccw.TheConstants.{STORAGE_LIMIT};
 
 use crate::deck::Deck;
 use crate::item::Item;
@@ -103,7 +104,7 @@ fn write_word(alloc: Global, out: &mut Vec<u8>, address: u32, word: &[u8]) -> Re
 
 /// A put for each doubleword that isn't zero, of bytes that stand at an address.
 fn write_puts(alloc: Global, out: &mut Vec<u8>, at: u32, bytes: &[u8]) -> Result<(), AllocError>
-    requires { at + length bytes.now ≤ 2 ^ 24 }
+    requires { at + length bytes.now ≤ STORAGE_LIMIT }
     ensures { OnOk result (out.new.items
         ≡ out.old.items ++ text (map line (puts (length bytes.now / 8) at bytes.now))) }
 {
@@ -153,7 +154,7 @@ fn write_heading(
 /// The line of storage, which is zero up to an address and has some bytes from there on, and the
 /// puts.
 fn write_storage(alloc: Global, out: &mut Vec<u8>, at: u32, bytes: &[u8]) -> Result<(), AllocError>
-    requires { at + length bytes.now ≤ 2 ^ 24 }
+    requires { at + length bytes.now ≤ STORAGE_LIMIT }
     ensures { OnOk result (out.new.items
         ≡ out.old.items ++ text (map line (item.storage (at + length bytes.now)
         ∷ puts (length bytes.now / 8) at bytes.now))) }
@@ -171,9 +172,9 @@ pub(crate) fn text_of(
     bytes: &[u8],
 ) -> Result<Vec<u8>, AllocError>
     requires whole { at % 8 ≡ 0 }
-    requires size { at + length bytes.now ≤ 2 ^ 24 }
+    requires size { at + length bytes.now ≤ STORAGE_LIMIT }
     ensures text { IfOk result (λ text. text.items
-        ≡ spelling (image_with preamble.now (replicate at 0 ++ bytes.now))) }
+        ≡ spelling (image_of_preamble preamble.now (replicate at 0 ++ bytes.now))) }
     ensures limit { OnOk result (HasLimit preamble.now.version) }
     ensures mask { OnOk result (IsByte preamble.now.mask × (is_mask preamble.now.mask ≡ true)) }
     ensures extents { OnOk result (AreExtents preamble.now.extents.now) }

@@ -7,7 +7,7 @@ use Rattle.chan_walk.specs.Fault.{IsClear, kind_of}
 use Rattle.chan_walk.specs.Limit.{usual_limit}
 use Rattle.chan_walk.specs.OpenJob.{open_job, IsOpenJob}
 use Rattle.chan_walk.specs.Place.{ccw_of}
-use Rattle.chan_find.specs.Programs.{start_at, IsPlain, StepsTo, IsTrail, LeadsTo, IsSecond}
+use Rattle.chan_find.specs.Programs.{start_at, IsPlainPlace, StepsTo, IsTrail, LeadsTo, IsSecondCcw}
 use Rattle.chan_find.specs.Programs.{HasSecondFrom, IsLikely, IsProgramStart, AreProgramStarts}
 use Rattle.chan_walk.specs.Successor.{Successor, next_of, skip_of}
 use Rattle.chan_walk.proofs.Theory.Granting.{ccw_over}
@@ -23,7 +23,7 @@ pub record AreAlike (j k : Job) : Type 0 where
 turned : (j k : Job) → AreAlike j k → AreAlike k j
 turned j k e = record { clear = λ p. ((e.clear p).1, (e.clear p).0); ccw = λ p. sym (e.ccw p) }
 
-pub plain_alike : (j k : Job) → AreAlike j k → (p : Place) → IsPlain j p → IsPlain k p
+pub plain_alike : (j k : Job) → AreAlike j k → (p : Place) → IsPlainPlace j p → IsPlainPlace k p
 plain_alike j k e p h = record {
   clear = (e.clear p).0 h.clear;
   spare = subst (λ c. is_transfer c ≡ false → c.spare ≡ 0) (e.ccw p) h.spare;
@@ -43,7 +43,7 @@ trail_alike j k e a q (p ∷ ps) t = (trail_alike j k e a p ps t.0, steps_alike 
 leads_alike : (j k : Job) → AreAlike j k → (a b : ℕ) → LeadsTo j a b → LeadsTo k a b
 leads_alike j k e a b (ps, t) = (ps, trail_alike j k e a (start_at b) ps t)
 
-second_alike : (j k : Job) → AreAlike j k → (a : ℕ) (p : Place) → IsSecond j a p → IsSecond k a p
+second_alike : (j k : Job) → AreAlike j k → (a : ℕ) (p : Place) → IsSecondCcw j a p → IsSecondCcw k a p
 second_alike j k e a p h = record {
   plain = plain_alike j k e p h.plain;
   no_transfer = subst (λ c. is_transfer c ≡ false) (e.ccw p) h.no_transfer;
@@ -53,7 +53,7 @@ second_alike j k e a p h = record {
 from_alike : (j k : Job) → AreAlike j k → (a : ℕ) (p : Place) → HasSecondFrom j a p → HasSecondFrom k a p
 from_alike j k e a p h = record { plain = plain_alike j k e p h.plain; second = go h.second }
   where
-    go : IsSecond j a p ⊎ ((q : Place) × Successor j p q × IsSecond j a q) → IsSecond k a p ⊎ ((q : Place) × Successor k p q × IsSecond k a q)
+    go : IsSecondCcw j a p ⊎ ((q : Place) × Successor j p q × IsSecondCcw j a q) → IsSecondCcw k a p ⊎ ((q : Place) × Successor k p q × IsSecondCcw k a q)
     go (inl s) = inl (second_alike j k e a p s)
     go (inr s) = inr (s.0, successor_alike j k e p s.0 s.1, second_alike j k e a s.0 s.2)
 

@@ -16,7 +16,7 @@ use Rattle.chan_walk.specs.Place.{ccw_of, transferred_to}
 use Rattle.chan_walk.specs.Reachable.{IsPath, IsReachable}
 use Rattle.chan_walk.specs.Successor.{Successor, chained}
 use Rattle.chan_walk.specs.Verdict.{IsVerdict}
-use Rattle.chan_find.specs.Programs.{start_at, IsPlain, IsSecond, HasSecondFrom, IsLikely}
+use Rattle.chan_find.specs.Programs.{start_at, IsPlainPlace, IsSecondCcw, HasSecondFrom, IsLikely}
 use Rattle.chan_find.specs.Programs.{HasTwoCcws, YesIsLikely}
 use Rattle.chan_walk.proofs.Theory.Checks.{no_second_transfer}
 use Rattle.chan_walk.proofs.Theory.Faults.{clear_check, yes_clear}
@@ -36,7 +36,7 @@ module _ (j : Job) (v : IsVerdict j Yes) (two : HasTwoCcws j) where
   a = j.start
 
   -- each reachable place is plain
-  plain : (p : Place) → IsReachable j p → IsPlain j p
+  plain : (p : Place) → IsReachable j p → IsPlainPlace j p
   plain p r = record { clear = yes_clear j v p r; spare = two.spare p r }
 
   first : IsReachable j (start_at a)
@@ -49,7 +49,7 @@ module _ (j : Job) (v : IsVerdict j Yes) (two : HasTwoCcws j) where
   no_transfer : (p : Place) → IsReachable j p → p.after_transfer ≡ true → is_transfer (ccw_of j p) ≡ false
   no_transfer p r t = no_second_transfer (storage_of j) p (clear_check j p (yes_clear j v p r)) t
 
-  second : (p : Place) → IsReachable j p → is_transfer (ccw_of j p) ≡ false → (p.address ≡ a → ⊥) → IsSecond j a p
+  second : (p : Place) → IsReachable j p → is_transfer (ccw_of j p) ≡ false → (p.address ≡ a → ⊥) → IsSecondCcw j a p
   second p r t n = record { plain = plain p r; no_transfer = t; elsewhere = n }
 
   -- the places that are reachable where the start isn't likely: the start's CCW, which steps only to what the start steps to, and transfers back to it
@@ -136,7 +136,7 @@ module _ (j : Job) (v : IsVerdict j Yes) (two : HasTwoCcws j) where
   is_likely = go (cases_eq two.one.address a)
     where
       go : (two.one.address ≡ a) ⊎ (two.one.address ≡ a → ⊥) → IsLikely j a
-      go (inl e) = elsewhere two.other two.reached.1 two.no_transfers.1 (λ f. two.apart (e ∙ sym f))
+      go (inl e) = elsewhere two.other two.reached.1 two.no_transfers.1 (λ f. two.distinct (e ∙ sym f))
       go (inr n) = elsewhere two.one two.reached.0 two.no_transfers.0 n
 
 pub yes_is_likely : YesIsLikely

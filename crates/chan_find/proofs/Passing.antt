@@ -9,11 +9,11 @@ use Rattle.ccw_core.specs.Storage.{Stands, is_aligned}
 use Rattle.chan_walk.specs.declared.job.Job.{Job}
 use Rattle.chan_walk.specs.declared.place.Place.{Place}
 use Rattle.chan_walk.specs.Argument.{Has}
-use Rattle.chan_find.specs.Trails.{HasByte, IsMarked, AreClosed, IsCovered, IsTaken, IsOffered}
-use Rattle.chan_find.specs.Trails.{AreComeTo, AreRoots}
+use Rattle.chan_find.specs.Trails.{HasByte, IsMarkedPlace, AreClosed, IsStartCovered, IsStartTaken}
+use Rattle.chan_find.specs.Trails.{IsStartOffered, AreComeTo, AreRoots}
 use Rattle.chan_walk.specs.Job.{storage_of}
 use Rattle.chan_find.specs.Programs.{start_at, IsTrail, HasTrail, LeadsTo, IsLikely}
-use Rattle.chan_find.specs.Programs.{AreProgramStarts, IsFirst, AreLedTo, IsRoot}
+use Rattle.chan_find.specs.Programs.{AreProgramStarts, NoEarlierLeadsTo, AreLedTo, IsRoot}
 use Rattle.chan_walk.proofs.Theory.Lists.{has_left, has_push}
 use Rattle.chan_find.proofs.Starts.{leads_on, high_is_program, program_is_high}
 use Rattle.chan_find.proofs.Covering.{stands_byte}
@@ -32,18 +32,18 @@ likely_byte j m a e l = stands_byte j m (start_at a) e (likely_stands j a l)
 
 -- closed marks that have a start's first place have all CCWs that the start has trails to
 pub closed_has : (j : Job) (m : List ℕ) (a : ℕ) (p : Place) → length m ≡ length (storage_of j) / 8
-    → AreClosed j m → IsMarked m (start_at a) → HasTrail j a p → Stands (storage_of j) p.address → IsMarked m p
+    → AreClosed j m → IsMarkedPlace m (start_at a) → HasTrail j a p → Stands (storage_of j) p.address → IsMarkedPlace m p
 closed_has j m a p e closed h (qs, t) s = go p qs t s
   where
-    go : (p : Place) (qs : List Place) → IsTrail j a (p ∷ qs) → Stands (storage_of j) p.address → IsMarked m p
-    go p [] e s = subst (IsMarked m) (sym e) h
+    go : (p : Place) (qs : List Place) → IsTrail j a (p ∷ qs) → Stands (storage_of j) p.address → IsMarkedPlace m p
+    go p [] e s = subst (IsMarkedPlace m) (sym e) h
     go q (p ∷ qs) t s = closed p q (go p qs t.0 (clear_stands j p t.1.0.clear)) t.1 (stands_byte j m q e s)
 
 -- one start more
-pub come_more : (j : Job) (starts : List ℕ) (a : ℕ) (m n : List ℕ) → AreComeTo j starts m → IsCovered j a m n → AreComeTo j (starts ++ a ∷ []) n
+pub come_more : (j : Job) (starts : List ℕ) (a : ℕ) (m n : List ℕ) → AreComeTo j starts m → IsStartCovered j a m n → AreComeTo j (starts ++ a ∷ []) n
 come_more j starts a m n come c p h = go (c.only p h)
   where
-    go : IsMarked m p ⊎ HasTrail j a p → (r : ℕ) × Has (starts ++ a ∷ []) r × HasTrail j r p
+    go : IsMarkedPlace m p ⊎ HasTrail j a p → (r : ℕ) × Has (starts ++ a ∷ []) r × HasTrail j r p
     go (inl k) = let r = come p k in (r.0, has_left starts (a ∷ []) r.0 r.1, r.2)
     go (inr k) = (a, (has_push starts a a).1 (inr refl), k)
 
@@ -131,9 +131,9 @@ rising_reverse (x ∷ xs) h =
 -- a pass over the numbers for which P holds: what holds once those are done for which Done does
 pub record IsPassed (j : Job) (Before : ℕ → ℕ → Type 0) (P Done : ℕ → Type 0) (ms ys : List ℕ) : Type 0 where
   pub come : AreComeTo j ys ms
-  pub each : (b : ℕ) → P b → Done b → IsMarked ms (start_at b)
-  pub all : (b : ℕ) → IsFirst j Before P b → Done b → Has ys b
-  pub only : (b : ℕ) → Has ys b → IsFirst j Before P b × Done b
+  pub each : (b : ℕ) → P b → Done b → IsMarkedPlace ms (start_at b)
+  pub all : (b : ℕ) → NoEarlierLeadsTo j Before P b → Done b → Has ys b
+  pub only : (b : ℕ) → Has ys b → NoEarlierLeadsTo j Before P b × Done b
   pub ordered : IsOrdered Before ys
 
 -- the number a is the next one
@@ -145,7 +145,7 @@ pub record IsNext (Before : ℕ → ℕ → Type 0) (P Done Then : ℕ → Type 
   pub done : (b : ℕ) → P b → Before b a → Done b
 
 pub passed_none : (j : Job) (Before : ℕ → ℕ → Type 0) (P Done : ℕ → Type 0) (ms ys : List ℕ)
-    → ((b : ℕ) → P b → Done b → ⊥) → ((p : Place) → IsMarked ms p → ⊥) → ys ≡ [] → IsPassed j Before P Done ms ys
+    → ((b : ℕ) → P b → Done b → ⊥) → ((p : Place) → IsMarkedPlace ms p → ⊥) → ys ≡ [] → IsPassed j Before P Done ms ys
 passed_none j Before P Done ms ys undone none d = subst (λ z. IsPassed j Before P Done ms z) (sym d) (record {
   come = λ p h. absurd (none p h);
   each = λ b p k. absurd (undone b p k);
@@ -157,7 +157,7 @@ passed_none j Before P Done ms ys undone none d = subst (λ z. IsPassed j Before
 module _ (j : Job) (Before : ℕ → ℕ → Type 0) (P Done Then : ℕ → Type 0) (a : ℕ) (likely : (b : ℕ) → P b → IsLikely j b)
     (x : IsNext Before P Done Then a) (ms ys : List ℕ) (u : IsPassed j Before P Done ms ys) where
   -- it is taken: nothing before it leads to it
-  passed_more : (ns zs : List ℕ) → P a → length ms ≡ length (storage_of j) / 8 → AreClosed j ms → IsTaken j a ms ys ns zs → IsPassed j Before P Then ns zs
+  passed_more : (ns zs : List ℕ) → P a → length ms ≡ length (storage_of j) / 8 → AreClosed j ms → IsStartTaken j a ms ys ns zs → IsPassed j Before P Then ns zs
   passed_more ns zs here len closed t = subst (λ z. IsPassed j Before P Then ns z) (sym t.taken) (record {
     come = come_more j ys a ms ns u.come t.covered;
     each = λ b p d. each b p (x.parts b p d);
@@ -166,26 +166,26 @@ module _ (j : Job) (Before : ℕ → ℕ → Type 0) (P Done Then : ℕ → Type
     ordered = ordered_push Before ys a u.ordered (λ y h. let o = u.only y h in x.before y o.0.holds o.1);
   })
     where
-      each : (b : ℕ) → P b → Done b ⊎ (b ≡ a) → IsMarked ns (start_at b)
+      each : (b : ℕ) → P b → Done b ⊎ (b ≡ a) → IsMarkedPlace ns (start_at b)
       each b p (inl d) = t.covered.keeps (start_at b) (u.each b p d)
-      each b p (inr e) = subst (λ z. IsMarked ns (start_at z)) (sym e) (t.covered.begins (likely_byte j ms a len t.likely))
+      each b p (inr e) = subst (λ z. IsMarkedPlace ns (start_at z)) (sym e) (t.covered.begins (likely_byte j ms a len t.likely))
 
-      all : (b : ℕ) → IsFirst j Before P b → Done b ⊎ (b ≡ a) → Has (ys ++ a ∷ []) b
+      all : (b : ℕ) → NoEarlierLeadsTo j Before P b → Done b ⊎ (b ≡ a) → Has (ys ++ a ∷ []) b
       all b f (inl d) = has_left ys (a ∷ []) b (u.all b f d)
       all b f (inr e) = (has_push ys a b).1 (inr (sym e))
 
-      first : IsFirst j Before P a
+      first : NoEarlierLeadsTo j Before P a
       first = record {
         holds = here;
         none = λ b p before l. t.new (closed_has j ms b (start_at a) len closed (u.each b p (x.done b p before)) l (likely_stands j a t.likely));
       }
 
-      only : (b : ℕ) → Has ys b ⊎ (a ≡ b) → IsFirst j Before P b × Then b
+      only : (b : ℕ) → Has ys b ⊎ (a ≡ b) → NoEarlierLeadsTo j Before P b × Then b
       only b (inl h) = let o = u.only b h in (o.0, x.on b o.0.holds o.1)
-      only b (inr e) = subst (λ z. IsFirst j Before P z × Then z) e (first, x.here)
+      only b (inr e) = subst (λ z. NoEarlierLeadsTo j Before P z × Then z) e (first, x.here)
 
   -- it is come to, if P holds for it: something before it leads to it
-  passed_by : (P a → IsMarked ms (start_at a)) → IsPassed j Before P Then ms ys
+  passed_by : (P a → IsMarkedPlace ms (start_at a)) → IsPassed j Before P Then ms ys
   passed_by stays = record {
     come = u.come;
     each = λ b p d. each b p (x.parts b p d);
@@ -194,22 +194,22 @@ module _ (j : Job) (Before : ℕ → ℕ → Type 0) (P Done Then : ℕ → Type
     ordered = u.ordered;
   }
     where
-      each : (b : ℕ) → P b → Done b ⊎ (b ≡ a) → IsMarked ms (start_at b)
+      each : (b : ℕ) → P b → Done b ⊎ (b ≡ a) → IsMarkedPlace ms (start_at b)
       each b p (inl d) = u.each b p d
-      each b p (inr e) = subst (λ z. IsMarked ms (start_at z)) (sym e) (stays (subst P e p))
+      each b p (inr e) = subst (λ z. IsMarkedPlace ms (start_at z)) (sym e) (stays (subst P e p))
 
-      none : (b : ℕ) → IsFirst j Before P b → b ≡ a → ⊥
+      none : (b : ℕ) → NoEarlierLeadsTo j Before P b → b ≡ a → ⊥
       none b f e =
           let c = u.come (start_at b) (each b f.holds (inr e)) in
           let o = u.only c.0 c.1 in
           f.none c.0 o.0.holds (subst (Before c.0) (sym e) (x.before c.0 o.0.holds o.1)) c.2
 
-      all : (b : ℕ) → IsFirst j Before P b → Done b ⊎ (b ≡ a) → Has ys b
+      all : (b : ℕ) → NoEarlierLeadsTo j Before P b → Done b ⊎ (b ≡ a) → Has ys b
       all b f (inl d) = u.all b f d
       all b f (inr e) = absurd (none b f e)
 
   pub passed : (ns zs : List ℕ) → (IsLikely j a → P a) → length ms ≡ length (storage_of j) / 8
-      → AreClosed j ms → IsOffered j a ms ys ns zs → IsPassed j Before P Then ns zs
+      → AreClosed j ms → IsStartOffered j a ms ys ns zs → IsPassed j Before P Then ns zs
   passed ns zs here len closed (inl t) = passed_more ns zs (here t.likely) len closed t
   passed ns zs here len closed (inr (stays, m, y)) =
       subst (λ z. IsPassed j Before P Then z zs) (sym m) (subst (λ z. IsPassed j Before P Then ms z) (sym y) (passed_by (λ p. stays (likely a p))))
@@ -234,7 +234,7 @@ aligned_next k b e l = pick (cases_lt b (k * 8))
     pick (inr h) = inr (grind (arith, e, h, l))
 
 pub up_turn : (j : Job) (ms ns old new : List ℕ) (a : ℕ) → (k : ℕ) × (a ≡ k * 8) → length ms ≡ length (storage_of j) / 8
-    → AreClosed j ms → IsUpTo j ms old a → IsOffered j a ms old ns new → IsUpTo j ns new (a + 8)
+    → AreClosed j ms → IsUpTo j ms old a → IsStartOffered j a ms old ns new → IsUpTo j ns new (a + 8)
 up_turn j ms ns old new a at len closed u o =
     passed j (λ b c. b < c) (IsLikely j) (λ b. b < a) (λ b. b < a + 8) a (λ b l. l) next ms old u ns new (λ l. l) len closed o
   where
@@ -274,7 +274,7 @@ IsDownTo j ms rest kept = IsPassed j (λ b c. c < b) (IsRoot j) (IsAbove rest) m
 pub rest_all : (j : Job) (rest : List ℕ) → AreRoots j rest → IsRest j rest
 rest_all j rest r = record { roots = r.only; left = λ b k. inl (r.each b k); rising = increasing_rises rest r.ordered }
 
-pub down_none : (j : Job) (ms rest kept : List ℕ) → AreRoots j rest → ((p : Place) → IsMarked ms p → ⊥) → kept ≡ [] → IsDownTo j ms rest kept
+pub down_none : (j : Job) (ms rest kept : List ℕ) → AreRoots j rest → ((p : Place) → IsMarkedPlace ms p → ⊥) → kept ≡ [] → IsDownTo j ms rest kept
 down_none j ms rest kept r none d =
     passed_none j (λ b c. c < b) (IsRoot j) (IsAbove rest) ms kept (λ b k above. let l = above b (r.each b k) in omega (arith, l)) none d
 
@@ -329,7 +329,7 @@ module _ (j : Job) (rest front : List ℕ) (s : ℕ) (is : rest ≡ front ++ s �
       left b (inr a) = inr (λ y h. a y (to y h))
 
   pub down_turn : (ms ns old new : List ℕ) → length ms ≡ length (storage_of j) / 8 → AreClosed j ms
-      → IsDownTo j ms rest old → IsOffered j s ms old ns new → IsDownTo j ns front new
+      → IsDownTo j ms rest old → IsStartOffered j s ms old ns new → IsDownTo j ns front new
   down_turn ms ns old new len closed u o =
       passed j (λ b c. c < b) (IsRoot j) (IsAbove rest) (IsAbove front) s (λ b k. k.holds) next ms old u ns new (λ l. r.roots s last) len closed o
 

@@ -7,7 +7,7 @@ use Rattle.chan_walk.specs.declared.job.Job.{Job}
 use Rattle.chan_walk.specs.declared.place.Place.{Place}
 use Rattle.chan_walk.specs.declared.successor.Next.{Next}
 use Rattle.chan_walk.specs.Successor.{AreSuccessors, Successor}
-use Rattle.chan_find.specs.Programs.{start_at, IsPlain, IsSecond, HasSecondFrom, IsLikely}
+use Rattle.chan_find.specs.Programs.{start_at, IsPlainPlace, IsSecondCcw, HasSecondFrom, IsLikely}
 
 pub some_and : (P : Place → Type 0) (o : Option Place) (p : Place) → o ≡ Some p → IsSomeAnd o P ↔ P p
 some_and P (Some q) p e = let same : q ≡ p = cc in ((λ h. subst P same h), λ h. subst P (sym same) h)
@@ -19,7 +19,7 @@ place_of P None h = absurd h
 
 -- P holds of a successor of a plain place exactly if it holds of one of the two
 pub successor_exactly : (P : Place → Type 0) (j : Job) (p : Place) (n : Next) → AreSuccessors j p n
-    → IsPlain j p → ((q : Place) × Successor j p q × P q) ↔ (IsSomeAnd n.next P ⊎ IsSomeAnd n.skip P)
+    → IsPlainPlace j p → ((q : Place) × Successor j p q × P q) ↔ (IsSomeAnd n.next P ⊎ IsSomeAnd n.skip P)
 successor_exactly P j p n are plain = (to, from)
   where
     to : (q : Place) × Successor j p q × P q → IsSomeAnd n.next P ⊎ IsSomeAnd n.skip P
@@ -30,20 +30,20 @@ successor_exactly P j p n are plain = (to, from)
     from (inl h) = let q = place_of P n.next h in (q.0, inl (sym (are.next plain.clear) ∙ q.1), q.2)
     from (inr h) = let q = place_of P n.skip h in (q.0, inr (sym (are.skip plain.clear) ∙ q.1), q.2)
 
-pub likely_exactly : (j : Job) (a : ℕ) (n : Next) → AreSuccessors j (start_at a) n → IsPlain j (start_at a)
+pub likely_exactly : (j : Job) (a : ℕ) (n : Next) → AreSuccessors j (start_at a) n → IsPlainPlace j (start_at a)
     → IsLikely j a ↔ (IsSomeAnd n.next (HasSecondFrom j a) ⊎ IsSomeAnd n.skip (HasSecondFrom j a))
 likely_exactly j a n are plain =
     let e = successor_exactly (HasSecondFrom j a) j (start_at a) n are plain in
     ((λ l. e.0 (l.next, l.follows, l.second)), λ h. let q = e.1 h in record { plain = plain; next = q.0; follows = q.1; second = q.2 })
 
-pub second_exactly : (j : Job) (a : ℕ) (p : Place) (n : Next) → AreSuccessors j p n → IsPlain j p
-    → (IsSecond j a p → ⊥) → HasSecondFrom j a p ↔ (IsSomeAnd n.next (IsSecond j a) ⊎ IsSomeAnd n.skip (IsSecond j a))
+pub second_exactly : (j : Job) (a : ℕ) (p : Place) (n : Next) → AreSuccessors j p n → IsPlainPlace j p
+    → (IsSecondCcw j a p → ⊥) → HasSecondFrom j a p ↔ (IsSomeAnd n.next (IsSecondCcw j a) ⊎ IsSomeAnd n.skip (IsSecondCcw j a))
 second_exactly j a p n are plain none = ((λ h. go h.second), λ h. record { plain = plain; second = inr (e.1 h) })
   where
-    e : ((q : Place) × Successor j p q × IsSecond j a q) ↔ (IsSomeAnd n.next (IsSecond j a) ⊎ IsSomeAnd n.skip (IsSecond j a))
-    e = successor_exactly (IsSecond j a) j p n are plain
+    e : ((q : Place) × Successor j p q × IsSecondCcw j a q) ↔ (IsSomeAnd n.next (IsSecondCcw j a) ⊎ IsSomeAnd n.skip (IsSecondCcw j a))
+    e = successor_exactly (IsSecondCcw j a) j p n are plain
 
-    go : IsSecond j a p ⊎ ((q : Place) × Successor j p q × IsSecond j a q) → IsSomeAnd n.next (IsSecond j a) ⊎ IsSomeAnd n.skip (IsSecond j a)
+    go : IsSecondCcw j a p ⊎ ((q : Place) × Successor j p q × IsSecondCcw j a q) → IsSomeAnd n.next (IsSecondCcw j a) ⊎ IsSomeAnd n.skip (IsSecondCcw j a)
     go (inl h) = absurd (none h)
     go (inr h) = e.0 h
 

@@ -4,8 +4,8 @@ use Rattle.std.proofs.lemmas.Bool.{cases_lt}
 use Rattle.chan_walk.specs.declared.job.Job.{Job}
 use Rattle.chan_walk.specs.declared.place.Place.{Place}
 use Rattle.chan_find.specs.Programs.{start_at, IsTrail, HasTrail, LeadsTo, IsLikely, IsProgramStart}
-use Rattle.chan_find.specs.Programs.{IsHigh, AreLedTo, IsRoot, TwiceIsEnough, NoneIsMissed}
-use Rattle.chan_find.specs.Programs.{ProgramsAreApart}
+use Rattle.chan_find.specs.Programs.{NoHigherLeadsTo, AreLedTo, IsRoot, TwiceIsEnough, NoneIsMissed}
+use Rattle.chan_find.specs.Programs.{ProgramsAreSeparate}
 
 -- ---- leading is a preorder
 
@@ -23,7 +23,7 @@ leads_on j a b c one other = trail_on j a b (start_at c) one other
 -- ---- two passes
 
 -- a root that leads to a start which no root above and no likely start below leads to is that start
-same_root : (j : Job) (a r : ℕ) → IsHigh j (IsRoot j) a → IsRoot j r → LeadsTo j r a → r ≡ a
+same_root : (j : Job) (a r : ℕ) → NoHigherLeadsTo j (IsRoot j) a → IsRoot j r → LeadsTo j r a → r ≡ a
 same_root j a r h k l = pick (cases_lt r a) (cases_lt a r)
   where
     pick : (r < a) ⊎ (a ≤ r) → (a < r) ⊎ (r ≤ a) → r ≡ a
@@ -31,7 +31,7 @@ same_root j a r h k l = pick (cases_lt r a) (cases_lt a r)
     pick (inr b) (inl c) = absurd (h.none r k c l)
     pick (inr b) (inr c) = omega arith
 
-pub high_is_program : (j : Job) → AreLedTo j (IsLikely j) (IsRoot j) → (a : ℕ) → IsHigh j (IsRoot j) a → IsProgramStart j a
+pub high_is_program : (j : Job) → AreLedTo j (IsLikely j) (IsRoot j) → (a : ℕ) → NoHigherLeadsTo j (IsRoot j) a → IsProgramStart j a
 high_is_program j covered a h = record { likely = h.holds.holds; first = first }
   where
     first : (b : ℕ) → IsLikely j b → LeadsTo j b a → LeadsTo j a b × (a ≤ b)
@@ -44,7 +44,7 @@ high_is_program j covered a h = record { likely = h.holds.holds; first = first }
         above (inl s) = absurd (h.holds.none b k s l)
         above (inr s) = s
 
-pub program_is_high : (j : Job) (a : ℕ) → IsProgramStart j a → IsHigh j (IsRoot j) a
+pub program_is_high : (j : Job) (a : ℕ) → IsProgramStart j a → NoHigherLeadsTo j (IsRoot j) a
 program_is_high j a s = record {
   holds = record { holds = s.likely; none = λ b k below l. let m = s.first b k l in absurd (omega (arith, m.1, below)) };
   none = λ b r above l. let m = s.first b r.holds l in absurd (r.none a s.likely above m.0);
@@ -59,8 +59,8 @@ none_is_missed j covered twice b k =
     let h = twice r.0 r.1 in
     (h.0, high_is_program j covered h.0 h.1, leads_on j h.0 r.0 b h.2 r.2)
 
-pub programs_are_apart : ProgramsAreApart
-programs_are_apart j a b s t l =
+pub programs_are_separate : ProgramsAreSeparate
+programs_are_separate j a b s t l =
     let m = t.first a s.likely l in
     let n = s.first b t.likely m.0 in
     omega (arith, m.1, n.1)

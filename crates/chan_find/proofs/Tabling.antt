@@ -11,7 +11,7 @@ use Rattle.std.proofs.lemmas.Nat.Bits.{bit_at_set_same, bit_at_set_other, bit_at
 use Rattle.ccw_core.specs.Storage.{is_aligned, is_inside}
 use Rattle.chan_walk.specs.declared.place.Place.{Place}
 use Rattle.chan_walk.specs.Places.{way_of}
-use Rattle.chan_find.specs.Trails.{HasByte, IsMarked, IsPut, bits_off, marks_left}
+use Rattle.chan_find.specs.Trails.{HasByte, IsMarkedPlace, IsOneMarkMore, bits_off, marks_left}
 use Rattle.chan_walk.proofs.Algorithms.Marks.{way_small, same_place}
 
 -- ---- how many bits are off
@@ -51,7 +51,7 @@ same_word : (a b : ℕ) → is_aligned a ≡ true → is_aligned b ≡ true → 
 same_word a b h k e = omega (arith, aligned_rest a h, aligned_rest b k, e)
 
 -- what is marked has a byte
-pub marked_byte : (m : List ℕ) (p : Place) → IsMarked m p → HasByte m p
+pub marked_byte : (m : List ℕ) (p : Place) → IsMarkedPlace m p → HasByte m p
 marked_byte m p h = go (cases_lt (p.address / 8) (length m))
   where
     go : (p.address / 8 < length m) ⊎ (length m ≤ p.address / 8) → HasByte m p
@@ -63,7 +63,7 @@ marked_byte m p h = go (cases_lt (p.address / 8) (length m))
 
 -- ---- one mark more
 
-module _ (m n : List ℕ) (q : Place) (byte : HasByte m q) (off : IsMarked m q → ⊥)
+module _ (m n : List ℕ) (q : Place) (byte : HasByte m q) (off : IsMarkedPlace m q → ⊥)
     (is : n ≡ slice_set m (q.address / 8) (bit_or (slice_index m (q.address / 8)) (1 * 2 ^ way_of q % 2 ^ 8))) where
   abbrev at : ℕ
   at = q.address / 8
@@ -100,10 +100,10 @@ module _ (m n : List ℕ) (q : Place) (byte : HasByte m q) (off : IsMarked m q �
       let o = off_less old new 8 (way_of q) (way_small q) was_off on others in
       omega (arith, e, s, o)
 
-  to : (p : Place) → IsMarked n p → IsMarked m p ⊎ (q ≡ p)
+  to : (p : Place) → IsMarkedPlace n p → IsMarkedPlace m p ⊎ (q ≡ p)
   to p h = go (cases_eq (p.address / 8) at) (cases_eq (way_of p) (way_of q))
     where
-      go : (p.address / 8 ≡ at) ⊎ (p.address / 8 ≡ at → ⊥) → (way_of p ≡ way_of q) ⊎ (way_of p ≡ way_of q → ⊥) → IsMarked m p ⊎ (q ≡ p)
+      go : (p.address / 8 ≡ at) ⊎ (p.address / 8 ≡ at → ⊥) → (way_of p ≡ way_of q) ⊎ (way_of p ≡ way_of q → ⊥) → IsMarkedPlace m p ⊎ (q ≡ p)
       go (inl e) (inl w) = inr (sym (same_place p q (same_word p.address q.address h.aligned byte.aligned e) w))
       go (inl e) (inr w) = inl (record {
         aligned = h.aligned;
@@ -112,11 +112,11 @@ module _ (m n : List ℕ) (q : Place) (byte : HasByte m q) (off : IsMarked m q �
       })
       go (inr d) w = inl (record { aligned = h.aligned; on = ap (λ z. bit_at z (way_of p)) (sym (there (p.address / 8) d)) ∙ h.on })
 
-  from : (p : Place) → IsMarked m p ⊎ (q ≡ p) → IsMarked n p
-  from p (inr e) = subst (IsMarked n) e (record { aligned = byte.aligned; on = ap (λ z. bit_at z (way_of q)) here ∙ on })
+  from : (p : Place) → IsMarkedPlace m p ⊎ (q ≡ p) → IsMarkedPlace n p
+  from p (inr e) = subst (IsMarkedPlace n) e (record { aligned = byte.aligned; on = ap (λ z. bit_at z (way_of q)) here ∙ on })
   from p (inl h) = go (cases_eq (p.address / 8) at) (cases_eq (way_of p) (way_of q))
     where
-      go : (p.address / 8 ≡ at) ⊎ (p.address / 8 ≡ at → ⊥) → (way_of p ≡ way_of q) ⊎ (way_of p ≡ way_of q → ⊥) → IsMarked n p
+      go : (p.address / 8 ≡ at) ⊎ (p.address / 8 ≡ at → ⊥) → (way_of p ≡ way_of q) ⊎ (way_of p ≡ way_of q → ⊥) → IsMarkedPlace n p
       go (inl e) (inl w) = record {
         aligned = h.aligned;
         on = ap (λ z. bit_at (slice_index n z) (way_of p)) e ∙ ap (λ z. bit_at z (way_of p)) here ∙ ap (bit_at new) w ∙ on;
@@ -128,9 +128,9 @@ module _ (m n : List ℕ) (q : Place) (byte : HasByte m q) (off : IsMarked m q �
       }
       go (inr d) w = record { aligned = h.aligned; on = ap (λ z. bit_at z (way_of p)) (there (p.address / 8) d) ∙ h.on }
 
-  is_put : IsPut q m n
+  is_put : IsOneMarkMore q m n
   is_put = record { marks = λ p. (to p, from p); fewer = fewer }
 
-pub put_one : (m n : List ℕ) (q : Place) → HasByte m q → (IsMarked m q → ⊥)
-    → n ≡ slice_set m (q.address / 8) (bit_or (slice_index m (q.address / 8)) (1 * 2 ^ way_of q % 2 ^ 8)) → IsPut q m n
+pub put_one : (m n : List ℕ) (q : Place) → HasByte m q → (IsMarkedPlace m q → ⊥)
+    → n ≡ slice_set m (q.address / 8) (bit_or (slice_index m (q.address / 8)) (1 * 2 ^ way_of q % 2 ^ 8)) → IsOneMarkMore q m n
 put_one m n q byte off is = is_put m n q byte off is

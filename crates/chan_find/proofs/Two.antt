@@ -2,7 +2,7 @@
 use Rattle.std.proofs.Common.{◌≡◌, ℕ, true, false, List, [], ◌∷◌, Option, Some, None, refl, sym, ap}
 use Rattle.std.proofs.Common.{◌∙◌, subst, ◌⊎◌, inl, inr}
 use Rattle.std.proofs.lemmas.Bool.{both_ways}
-use Rattle.ccw_core.specs.Ccw.{Fields, ccw, chains_command, chains_data, has_data_in, is_counted}
+use Rattle.ccw_core.specs.Ccw.{Fields, ccw, chains_command, chains_data, has_data_in, has_count}
 use Rattle.ccw_core.specs.Ccw.{is_formed, is_invalid, is_transfer}
 use Rattle.ccw_core.specs.Storage.{is_aligned, is_inside}
 use Rattle.ckd_core.specs.declared.command.Kind.TheVariants.{Idle}
@@ -13,13 +13,13 @@ use Rattle.chan_walk.specs.declared.place.Entry.TheVariants.{Fresh}
 use Rattle.chan_walk.specs.declared.place.Place.{Place}
 use Rattle.chan_walk.specs.declared.reason.Reason.{Reason}
 use Rattle.chan_walk.specs.declared.verdict.Verdict.TheVariants.{Yes}
-use Rattle.chan_walk.specs.Check.{check, check_of}
+use Rattle.chan_walk.specs.ProgramCheck.{program_check, program_check_of}
 use Rattle.chan_walk.specs.Fault.{goes_in, goes_out, is_known, kind_of, stores, IsClear}
 use Rattle.chan_walk.specs.Job.{storage_of}
 use Rattle.chan_walk.specs.Place.{ccw_of, straight_to}
 use Rattle.chan_walk.specs.Reachable.{IsPath}
 use Rattle.chan_walk.specs.Successor.{next_of, skip_of}
-use Rattle.chan_walk.specs.Verdict.{Changes, IsVerdict}
+use Rattle.chan_walk.specs.Verdict.{ChangesGuarded, IsVerdict}
 use Rattle.chan_find.specs.Programs.{start_at, HasTwoCcws, SomeHaveTwoCcws, two_no_operations}
 use Rattle.chan_walk.proofs.Theory.Chains.{argument_exists}
 use Rattle.chan_walk.proofs.Theory.Faults.{IsGood, fault_unique}
@@ -72,13 +72,13 @@ reads : (ccw two_no_operations 0 ≡ idle 0x60) × (ccw two_no_operations 8 ≡ 
 unfolding ccw
 reads = (refl, refl)
 
-checks : (check two_no_operations one ≡ None) × (check two_no_operations other ≡ None)
-unfolding check_of is_aligned is_inside is_transfer is_invalid is_formed is_counted has_data_in ccw
+checks : (program_check two_no_operations one ≡ None) × (program_check two_no_operations other ≡ None)
+unfolding program_check_of is_aligned is_inside is_transfer is_invalid is_formed has_count has_data_in ccw
 checks = (refl, refl)
 
 -- what comes after each of them
-abbrev Leads : Place → Fields → Place → Type 0
-Leads p c q = (next_of p c (kind_of p.entered c) ≡ Some q) ⊎ (skip_of p c (kind_of p.entered c) ≡ Some q)
+abbrev ChainLeads : Place → Fields → Place → Type 0
+ChainLeads p c q = (next_of p c (kind_of p.entered c) ≡ Some q) ⊎ (skip_of p c (kind_of p.entered c) ≡ Some q)
 
 after_one : (next_of one (idle 0x60) Idle ≡ Some other) × (skip_of one (idle 0x60) Idle ≡ None)
 unfolding is_transfer chains_data chains_command
@@ -92,17 +92,17 @@ after_other = (refl, refl)
 abbrev IsOfTwo : Place → Fields → Type 0
 IsOfTwo p c = ((p ≡ one) × (c ≡ idle 0x60)) ⊎ ((p ≡ other) × (c ≡ idle 0x20))
 
-after : (p : Place) (c : Fields) (q : Place) → IsOfTwo p c → Leads p c q → q ≡ other
-after p c q (inl (e, f)) h = go (subst (λ z. Leads z (idle 0x60) q) e (subst (λ z. Leads p z q) f h))
+after : (p : Place) (c : Fields) (q : Place) → IsOfTwo p c → ChainLeads p c q → q ≡ other
+after p c q (inl (e, f)) h = go (subst (λ z. ChainLeads z (idle 0x60) q) e (subst (λ z. ChainLeads p z q) f h))
   where
-    go : Leads one (idle 0x60) q → q ≡ other
+    go : ChainLeads one (idle 0x60) q → q ≡ other
     go (inl n) = let e : Some other ≡ Some q = sym after_one.0 ∙ subst (λ k. next_of one (idle 0x60) k ≡ Some q) (moves_none 0x60) n in cc
     go (inr n) =
         let e : ◌≡◌ {A = Option Place} None (Some q) = sym after_one.1 ∙ subst (λ k. skip_of one (idle 0x60) k ≡ Some q) (moves_none 0x60) n in
         absurd cc
-after p c q (inr (e, f)) h = go (subst (λ z. Leads z (idle 0x20) q) e (subst (λ z. Leads p z q) f h))
+after p c q (inr (e, f)) h = go (subst (λ z. ChainLeads z (idle 0x20) q) e (subst (λ z. ChainLeads p z q) f h))
   where
-    go : Leads other (idle 0x20) q → q ≡ other
+    go : ChainLeads other (idle 0x20) q → q ≡ other
     go (inl n) =
         let e : ◌≡◌ {A = Option Place} None (Some q) = sym after_other.0 ∙ subst (λ k. next_of other (idle 0x20) k ≡ Some q) (moves_none 0x20) n in
         absurd cc
@@ -129,7 +129,7 @@ module _ (j : Job) (s : storage_of j ≡ two_no_operations) (start : j.start ≡
   two_other : (p : Place) → p ≡ other → Two p
   two_other p e = inr (e, rw (s, e) reads.1)
 
-  checked : (p : Place) → Two p → check (storage_of j) p ≡ None
+  checked : (p : Place) → Two p → program_check (storage_of j) p ≡ None
   checked p (inl (e, f)) = rw (s, e) checks.0
   checked p (inr (e, f)) = rw (s, e) checks.1
 
@@ -150,7 +150,7 @@ module _ (j : Job) (s : storage_of j ≡ two_no_operations) (start : j.start ≡
       none : stores p (ccw_of j p) ≡ true → ⊥
       none h = let c = flags_at p (ccw_of j p) (on_path m.0 p m.1) in both_ways _ (stores_none p c.0 c.2) (subst (λ z. stores p z ≡ true) c.1 h)
 
-      go : Changes j p r → ⊥
+      go : ChangesGuarded j p r → ⊥
       go (inl o) = none o.1.stores
       go (inr o) = none o.1.stores
 
@@ -174,7 +174,7 @@ module _ (j : Job) (s : storage_of j ≡ two_no_operations) (start : j.start ≡
     other = other;
     reached = (([], first), (one ∷ [], second));
     no_transfers = (none one (two_one one refl), none other (two_other other refl));
-    apart = λ e. absurd cc;
+    distinct = λ e. absurd cc;
     spare = λ p m t. ap (λ (c : Fields). c.spare) (flags_at p (ccw_of j p) (on_path m.0 p m.1)).1;
   }
     where

@@ -23,13 +23,13 @@ abbrev pub start_at : ℕ → Place
 start_at a = transferred_to a Fresh
 
 -- a place is plain: it has no own fault, and byte 5 of its CCW is zero unless it is a transfer
-pub record IsPlain (j : Job) (p : Place) : Type 0 where
+pub record IsPlainPlace (j : Job) (p : Place) : Type 0 where
   pub clear : IsClear j p
   pub spare : is_transfer (ccw_of j p) ≡ false → (ccw_of j p).spare ≡ 0
 
 -- a plain place steps to its successors, and to its own CCW as a start
 abbrev pub StepsTo : Job → Place → Place → Type 0
-StepsTo j p q = IsPlain j p × (Successor j p q ⊎ (q ≡ start_at p.address))
+StepsTo j p q = IsPlainPlace j p × (Successor j p q ⊎ (q ≡ start_at p.address))
 
 -- the places of a trail from the start a, the newest first
 abbrev pub IsTrail : Job → ℕ → List Place → Type 0
@@ -48,20 +48,20 @@ LeadsTo j a b = HasTrail j a (start_at b)
 -- ---- programs
 
 -- a second CCW stands at the place: it is plain, no transfer, and at another address than a
-pub record IsSecond (j : Job) (a : ℕ) (p : Place) : Type 0 where
-  pub plain : IsPlain j p
+pub record IsSecondCcw (j : Job) (a : ℕ) (p : Place) : Type 0 where
+  pub plain : IsPlainPlace j p
   pub no_transfer : is_transfer (ccw_of j p) ≡ false
   pub elsewhere : p.address ≡ a → ⊥
 
 -- the place is plain, and a second CCW stands there or at a successor
 pub record HasSecondFrom (j : Job) (a : ℕ) (p : Place) : Type 0 where
-  pub plain : IsPlain j p
-  pub second : IsSecond j a p ⊎ ((q : Place) × Successor j p q × IsSecond j a q)
+  pub plain : IsPlainPlace j p
+  pub second : IsSecondCcw j a p ⊎ ((q : Place) × Successor j p q × IsSecondCcw j a q)
 
 -- a likely start is plain, and a second CCW stands at a successor, or at a successor of that one,
 -- since a transfer may stand between
 pub record IsLikely (j : Job) (a : ℕ) : Type 0 where
-  pub plain : IsPlain j (start_at a)
+  pub plain : IsPlainPlace j (start_at a)
   pub next : Place
   pub follows : Successor j (start_at a) next
   pub second : HasSecondFrom j a next
@@ -102,7 +102,7 @@ pub record HasTwoCcws (j : Job) : Type 0 where
   pub other : Place
   pub reached : IsReachable j one × IsReachable j other
   pub no_transfers : (is_transfer (ccw_of j one) ≡ false) × (is_transfer (ccw_of j other) ≡ false)
-  pub apart : one.address ≡ other.address → ⊥
+  pub distinct : one.address ≡ other.address → ⊥
   pub spare :
       (p : Place) → IsReachable j p → is_transfer (ccw_of j p) ≡ false → (ccw_of j p).spare ≡ 0
 
@@ -124,17 +124,18 @@ SomeHaveTwoCcws =
 -- ---- how they are found: upwards, and downwards over what was left
 
 -- P holds for a, and for no number that comes before it and leads to it
-pub record IsFirst (j : Job) (Before : ℕ → ℕ → Type 0) (P : ℕ → Type 0) (a : ℕ) : Type 0 where
+pub record NoEarlierLeadsTo (j : Job) (Before : ℕ → ℕ → Type 0) (P : ℕ
+    → Type 0) (a : ℕ) : Type 0 where
   pub holds : P a
   pub none : (b : ℕ) → P b → Before b a → LeadsTo j b a → ⊥
 
 -- upwards a lower number comes before
-abbrev pub IsLow : Job → (ℕ → Type 0) → ℕ → Type 0
-IsLow j P a = IsFirst j (λ b c. b < c) P a
+abbrev pub NoLowerLeadsTo : Job → (ℕ → Type 0) → ℕ → Type 0
+NoLowerLeadsTo j P a = NoEarlierLeadsTo j (λ b c. b < c) P a
 
 -- and downwards a higher one
-abbrev pub IsHigh : Job → (ℕ → Type 0) → ℕ → Type 0
-IsHigh j P a = IsFirst j (λ b c. c < b) P a
+abbrev pub NoHigherLeadsTo : Job → (ℕ → Type 0) → ℕ → Type 0
+NoHigherLeadsTo j P a = NoEarlierLeadsTo j (λ b c. c < b) P a
 
 -- each number for which P holds is led to by one for which Q holds
 abbrev pub AreLedTo : Job → (ℕ → Type 0) → (ℕ → Type 0) → Type 0
@@ -142,22 +143,22 @@ AreLedTo j P Q = (b : ℕ) → P b → (a : ℕ) × Q a × LeadsTo j a b
 
 -- what is left of the likely starts upwards
 abbrev pub IsRoot : Job → ℕ → Type 0
-IsRoot j = IsLow j (IsLikely j)
+IsRoot j = NoLowerLeadsTo j (IsLikely j)
 
 -- twice is enough: what is left of these downwards is the starts of programs
 abbrev pub TwiceIsEnough : Type 0
 TwiceIsEnough =
     (j : Job) → AreLedTo j (IsLikely j) (IsRoot j)
-    → (a : ℕ) → IsHigh j (IsRoot j) a ↔ IsProgramStart j a
+    → (a : ℕ) → NoHigherLeadsTo j (IsRoot j) a ↔ IsProgramStart j a
 
 -- none is missed: each likely start is led to by the start of a program
 abbrev pub NoneIsMissed : Type 0
 NoneIsMissed =
     (j : Job) → AreLedTo j (IsLikely j) (IsRoot j)
-    → AreLedTo j (IsRoot j) (IsHigh j (IsRoot j))
+    → AreLedTo j (IsRoot j) (NoHigherLeadsTo j (IsRoot j))
     → AreLedTo j (IsLikely j) (IsProgramStart j)
 
--- programs are apart: no program's start leads to another's
-abbrev pub ProgramsAreApart : Type 0
-ProgramsAreApart =
+-- programs are separate: no program's start leads to another's
+abbrev pub ProgramsAreSeparate : Type 0
+ProgramsAreSeparate =
     (j : Job) (a b : ℕ) → IsProgramStart j a → IsProgramStart j b → LeadsTo j a b → a ≡ b

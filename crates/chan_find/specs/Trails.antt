@@ -22,7 +22,7 @@ pub record HasByte (m : List ℕ) (p : Place) : Type 0 where
   pub within : p.address / 8 < length m
 
 -- the place is marked
-pub record IsMarked (m : List ℕ) (p : Place) : Type 0 where
+pub record IsMarkedPlace (m : List ℕ) (p : Place) : Type 0 where
   pub aligned : is_aligned p.address ≡ true
   pub on : bit_at (slice_index m (p.address / 8)) (way_of p) ≡ 1
 
@@ -36,59 +36,59 @@ abbrev pub marks_left : List ℕ → ℕ
 marks_left m = sum_by (λ b. bits_off b 8) m
 
 -- the mark of q more
-pub record IsPut (q : Place) (m n : List ℕ) : Type 0 where
-  pub marks : (p : Place) → IsMarked n p ↔ (IsMarked m p ⊎ (q ≡ p))
+pub record IsOneMarkMore (q : Place) (m n : List ℕ) : Type 0 where
+  pub marks : (p : Place) → IsMarkedPlace n p ↔ (IsMarkedPlace m p ⊎ (q ≡ p))
   pub fewer : marks_left n + 1 ≡ marks_left m
 
 -- ---- from place to place
 
 -- from the marks m and the places ps to the marks n and the places qs: more is marked where P
 -- holds, all of it where the table has a byte, and each place that is marked anew is also pending
-pub record IsGrown (P : Place → Type 0) (m : List ℕ) (ps : List Place) (n : List ℕ)
+pub record HaveMarksGrown (P : Place → Type 0) (m : List ℕ) (ps : List Place) (n : List ℕ)
     (qs : List Place) : Type 0 where
   pub len : length n ≡ length m
-  pub keeps : (p : Place) → IsMarked m p → IsMarked n p
-  pub only : (p : Place) → IsMarked n p → IsMarked m p ⊎ (P p × Has qs p)
-  pub each : (p : Place) → P p → HasByte m p → IsMarked n p
+  pub keeps : (p : Place) → IsMarkedPlace m p → IsMarkedPlace n p
+  pub only : (p : Place) → IsMarkedPlace n p → IsMarkedPlace m p ⊎ (P p × Has qs p)
+  pub each : (p : Place) → P p → HasByte m p → IsMarkedPlace n p
   pub stays : (p : Place) → Has ps p → Has qs p
-  pub pending : (p : Place) → Has qs p → Has ps p ⊎ IsMarked n p
+  pub pending : (p : Place) → Has qs p → Has ps p ⊎ IsMarkedPlace n p
   pub fewer : 2 * marks_left n + length qs ≤ 2 * marks_left m + length ps
 
 -- what the marked places step to is marked
 abbrev pub AreClosed : Job → List ℕ → Type 0
-AreClosed j m = (p q : Place) → IsMarked m p → StepsTo j p q → HasByte m q → IsMarked m q
+AreClosed j m = (p q : Place) → IsMarkedPlace m p → StepsTo j p q → HasByte m q → IsMarkedPlace m q
 
 -- the table is as long as it has to be, and nothing is left to step on from
-pub record IsSettled (j : Job) (c : Covered) : Type 0 where
+pub record IsFullyCovered (j : Job) (c : Covered) : Type 0 where
   pub len : length c.marks.bytes.items ≡ length (storage_of j) / 8
   pub closed : AreClosed j c.marks.bytes.items
   pub none : c.pending.items ≡ []
 
 -- n has the marks of m, and those of the places that the start a has trails to
-pub record IsCovered (j : Job) (a : ℕ) (m n : List ℕ) : Type 0 where
-  pub keeps : (p : Place) → IsMarked m p → IsMarked n p
-  pub begins : HasByte m (start_at a) → IsMarked n (start_at a)
-  pub only : (p : Place) → IsMarked n p → IsMarked m p ⊎ HasTrail j a p
+pub record IsStartCovered (j : Job) (a : ℕ) (m n : List ℕ) : Type 0 where
+  pub keeps : (p : Place) → IsMarkedPlace m p → IsMarkedPlace n p
+  pub begins : HasByte m (start_at a) → IsMarkedPlace n (start_at a)
+  pub only : (p : Place) → IsMarkedPlace n p → IsMarkedPlace m p ⊎ HasTrail j a p
 
 -- ---- the passes
 
 -- the start a is taken, as it is likely and not come to: the marks are n in the place of m, and the
 -- starts taken zs in the place of ys
-pub record IsTaken (j : Job) (a : ℕ) (m ys n zs : List ℕ) : Type 0 where
+pub record IsStartTaken (j : Job) (a : ℕ) (m ys n zs : List ℕ) : Type 0 where
   pub likely : IsLikely j a
-  pub new : IsMarked m (start_at a) → ⊥
-  pub covered : IsCovered j a m n
+  pub new : IsMarkedPlace m (start_at a) → ⊥
+  pub covered : IsStartCovered j a m n
   pub taken : zs ≡ ys ++ a ∷ []
 
 -- it is offered: it is taken, or else it isn't likely or is come to, and all stays
-abbrev pub IsOffered : Job → ℕ → List ℕ → List ℕ → List ℕ → List ℕ → Type 0
-IsOffered j a m ys n zs =
-    IsTaken j a m ys n zs
-    ⊎ ((IsLikely j a → IsMarked m (start_at a)) × (n ≡ m) × (zs ≡ ys))
+abbrev pub IsStartOffered : Job → ℕ → List ℕ → List ℕ → List ℕ → List ℕ → Type 0
+IsStartOffered j a m ys n zs =
+    IsStartTaken j a m ys n zs
+    ⊎ ((IsLikely j a → IsMarkedPlace m (start_at a)) × (n ≡ m) × (zs ≡ ys))
 
 -- each marked place has a trail from a start of the list
 abbrev pub AreComeTo : Job → List ℕ → List ℕ → Type 0
-AreComeTo j starts m = (p : Place) → IsMarked m p → (r : ℕ) × Has starts r × HasTrail j r p
+AreComeTo j starts m = (p : Place) → IsMarkedPlace m p → (r : ℕ) × Has starts r × HasTrail j r p
 
 -- the list has exactly the roots, each once, in order, and they lead to each likely start
 pub record AreRoots (j : Job) (roots : List ℕ) : Type 0 where

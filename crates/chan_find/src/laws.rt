@@ -1,7 +1,7 @@
 //! The laws of finding programs: each is the contract of a function that does nothing, so that it
 //! is proved.
 
-ghost use Rattle.chan_find.specs.Programs.{NoneIsMissed, ProgramsAreApart, TwiceIsEnough};
+ghost use Rattle.chan_find.specs.Programs.{NoneIsMissed, ProgramsAreSeparate, TwiceIsEnough};
 ghost use Rattle.chan_find.specs.Programs.{SomeHaveTwoCcws, YesIsLikely};
 
 /// Two passes over the likely starts, upwards and then downwards, leave the starts of programs.
@@ -16,8 +16,8 @@ pub(crate) fn none_is_missed()
 {}
 
 /// No program's start leads to the start of another program.
-pub(crate) fn programs_are_apart()
-    ensures { ProgramsAreApart }
+pub(crate) fn programs_are_separate()
+    ensures { ProgramsAreSeparate }
 {}
 
 /// The start of a job with a yes is likely, if two CCWs other than transfers are reachable and byte

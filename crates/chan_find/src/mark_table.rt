@@ -2,7 +2,7 @@
 
 ghost use Rattle.std.specs.Prelude.{◌≡◌, ◌/◌, ◌↔◌, ◌<◌, length, IfOk, IsTrue, MatchOption};
 ghost use Rattle.std.specs.Bool.{MatchBool};
-ghost use Rattle.chan_find.specs.Trails.{HasByte, IsMarked, IsPut};
+ghost use Rattle.chan_find.specs.Trails.{HasByte, IsMarkedPlace, IsOneMarkMore};
 ghost use Rattle.chan_walk.specs.declared.place.Place as places;
 
 use chan_walk::Place;
@@ -19,7 +19,7 @@ impl MarkTable {
     /// The empty set, for storage of this length.
     pub(crate) fn new(alloc: Global, storage_len: u32) -> Result<MarkTable, AllocError>
         ensures len { IfOk result (λ t. length t.bytes.items ≡ storage_len / 8) }
-        ensures none { IfOk result (λ t. (p : places.Place) → IsMarked t.bytes.items p → ⊥) }
+        ensures none { IfOk result (λ t. (p : places.Place) → IsMarkedPlace t.bytes.items p → ⊥) }
     {
         let mut bytes = Vec::new(alloc);
         bytes.resize((storage_len / 8) as usize, 0)?;
@@ -44,7 +44,7 @@ impl MarkTable {
 
     /// Whether a place is marked.
     pub(crate) fn has(&self, place: Place) -> bool
-        ensures { IsTrue result ↔ IsMarked self.now.bytes.items place }
+        ensures { IsTrue result ↔ IsMarkedPlace self.now.bytes.items place }
     {
         match self.index_of(place) {
             Some(at) => (self.bytes[at] >> place.way()) & 1 == 1,
@@ -56,10 +56,10 @@ impl MarkTable {
     pub(crate) fn put(&mut self, place: Place) -> bool
         ensures len { length self.new.bytes.items ≡ length self.old.bytes.items }
         ensures put { MatchBool result
-            (IsPut place self.old.bytes.items self.new.bytes.items)
+            (IsOneMarkMore place self.old.bytes.items self.new.bytes.items)
             (self.new.bytes.items ≡ self.old.bytes.items) }
         ensures marked { HasByte self.old.bytes.items place
-            → IsMarked self.new.bytes.items place }
+            → IsMarkedPlace self.new.bytes.items place }
     {
         let Some(at) = self.index_of(place) else {
             return false;

@@ -2,17 +2,18 @@
 
 ghost use Rattle.std.specs.Prelude.{IsTrue, IfOk, OnOk, IsSomeAnd, ◌↔◌};
 ghost use Rattle.ccw_core.specs.Held.{bytes_held};
-ghost use Rattle.chan_find.specs.Trails.{AreRoots, IsOffered, IsSettled};
+ghost use Rattle.chan_find.specs.Trails.{AreRoots, IsStartOffered, IsFullyCovered};
 ghost use Rattle.chan_walk.specs.Look.{IsLook};
 ghost use Rattle.chan_walk.specs.OpenJob.{open_job};
 ghost use Rattle.chan_find.specs.Programs as program;
 ghost use Rattle.chan_find.specs.Programs.{AreProgramStarts, HasSecondFrom, HasTwoCcws, IsJobOver};
-ghost use Rattle.chan_find.specs.Programs.{IsLedTo, IsLikely, IsPlain, IsSecond, LeadToNoOther};
+ghost use Rattle.chan_find.specs.Programs.{IsLedTo, IsLikely, IsPlainPlace, IsSecondCcw};
+ghost use Rattle.chan_find.specs.Programs.{LeadToNoOther};
 ghost use Rattle.chan_walk.specs.Verdict.{IsVerdict};
 ghost use Rattle.chan_walk.specs.declared.job.Job.{Job};
 ghost use Rattle.chan_walk.specs.declared.verdict.Verdict.TheVariants as verdict;
 
-use crate::laws::{programs_are_apart, yes_is_likely};
+use crate::laws::{programs_are_separate, yes_is_likely};
 use crate::trails::{Covered, is_plain, start_at};
 use ccw_core::Storage;
 use chan_walk::{Job, Limit, Look, OpenJob, Place, look_at};
@@ -22,7 +23,7 @@ use std::alloc::{AllocError, Global};
 /// Whether a place holds a second CCW: the place is plain, not a transfer, and not at the start's
 /// address.
 fn is_second(look: &Look, start: u32) -> bool
-    ensures { (j : Job) → IsLook j look.now → IsTrue result ↔ IsSecond j start look.now.place }
+    ensures { (j : Job) → IsLook j look.now → IsTrue result ↔ IsSecondCcw j start look.now.place }
 {
     match look.ccw() {
         Some(ccw) => is_plain(look) && !ccw.is_transfer() && look.place().address != start,
@@ -32,7 +33,7 @@ fn is_second(look: &Look, start: u32) -> bool
 
 /// Whether there is a place, and it holds a second CCW.
 fn is_second_at(job: &Job, start: u32, place: Option<Place>) -> bool
-    ensures { IsTrue result ↔ IsSomeAnd place (IsSecond job.now start) }
+    ensures { IsTrue result ↔ IsSomeAnd place (IsSecondCcw job.now start) }
 {
     match place {
         Some(place) => is_second(&look_at(job, place), start),
@@ -61,7 +62,7 @@ fn has_second_from(job: &Job, start: u32, place: Option<Place>) -> bool
 /// Whether the CCW at an address, by two of its bytes alone, may be a plain start: its code is the
 /// code of a command and its byte 5 is zero. Most data fails here, before a look.
 fn may_be_plain(job: &Job, start: u32) -> bool
-    ensures { IsPlain job.now (program.start_at start) → IsTrue result }
+    ensures { IsPlainPlace job.now (program.start_at start) → IsTrue result }
 {
     match job.storage.ccw_at(start) {
         Some(ccw) => ccw.spare() == 0 && lookup(ccw.command()).is_some(),
@@ -92,9 +93,9 @@ fn offer(
     start: u32,
     taken: &mut Vec<u32>,
 ) -> Result<(), AllocError>
-    requires { IsSettled job.now covered.old }
-    ensures settled { OnOk result (IsSettled job.now covered.new) }
-    ensures offered { OnOk result (IsOffered job.now start
+    requires { IsFullyCovered job.now covered.old }
+    ensures settled { OnOk result (IsFullyCovered job.now covered.new) }
+    ensures offered { OnOk result (IsStartOffered job.now start
         covered.old.marks.bytes.items taken.old.items
         covered.new.marks.bytes.items taken.new.items) }
 {
@@ -161,13 +162,13 @@ pub fn program_starts(
 ) -> Result<Vec<u32>, AllocError>
     ensures starts { IfOk result (λ v. (j : Job) → IsJobOver (bytes_held storage.now) device j
         → AreProgramStarts (open_job j) v.items) }
-    ensures apart { IfOk result (λ v. (j : Job) → IsJobOver (bytes_held storage.now) device j
+    ensures separate { IfOk result (λ v. (j : Job) → IsJobOver (bytes_held storage.now) device j
         → LeadToNoOther (open_job j) v.items) }
     ensures yes { IfOk result (λ v. (j : Job) → IsJobOver (bytes_held storage.now) device j
         → IsVerdict (open_job j) verdict.Yes → HasTwoCcws (open_job j)
         → IsLedTo (open_job j) v.items j.start) }
 {
-    programs_are_apart();
+    programs_are_separate();
     yes_is_likely();
     let open = OpenJob::over(alloc, *storage, 0, device, Limit::usual())?;
     starts_of(alloc, &open.job())

@@ -1,10 +1,11 @@
 //! The places that starts have trails to.
 
 ghost use Rattle.std.specs.Prelude.{◌≡◌, IfOk, IsTrue, OnOk, Some, ◌↔◌};
-ghost use Rattle.chan_find.specs.Trails.{IsCovered, IsGrown, IsMarked, IsSettled};
+ghost use Rattle.chan_find.specs.Trails.{IsStartCovered, HaveMarksGrown, IsMarkedPlace};
+ghost use Rattle.chan_find.specs.Trails.{IsFullyCovered};
 ghost use Rattle.chan_walk.specs.Look.{IsLook};
 ghost use Rattle.chan_find.specs.Programs as program;
-ghost use Rattle.chan_find.specs.Programs.{IsPlain, StepsTo};
+ghost use Rattle.chan_find.specs.Programs.{IsPlainPlace, StepsTo};
 ghost use Rattle.chan_walk.specs.declared.job.Job.{Job};
 ghost use Rattle.chan_walk.specs.declared.place.Place as places;
 
@@ -26,7 +27,7 @@ pub(crate) fn start_at(address: u32) -> Place
 /// Whether a place is plain: it has no own fault, and byte 5 of its CCW is zero unless it is a
 /// transfer.
 pub(crate) fn is_plain(look: &Look) -> bool
-    ensures { (j : Job) → IsLook j look.now → IsTrue result ↔ IsPlain j look.now.place }
+    ensures { (j : Job) → IsLook j look.now → IsTrue result ↔ IsPlainPlace j look.now.place }
 {
     match look.ccw() {
         Some(ccw) => look.fault().is_none() && (ccw.is_transfer() || ccw.spare() == 0),
@@ -45,8 +46,9 @@ pub(crate) struct Covered {
 impl Covered {
     /// No place yet.
     pub(crate) fn new(alloc: Global, job: &Job) -> Result<Covered, AllocError>
-        ensures settled { IfOk result (IsSettled job.now) }
-        ensures none { IfOk result (λ c. (p : places.Place) → IsMarked c.marks.bytes.items p → ⊥) }
+        ensures settled { IfOk result (IsFullyCovered job.now) }
+        ensures none { IfOk result (λ c. (p : places.Place) → IsMarkedPlace c.marks.bytes.items p
+            → ⊥) }
     {
         Ok(Covered {
             marks: MarkTable::new(alloc, job.storage.len())?,
@@ -56,14 +58,14 @@ impl Covered {
 
     /// Whether some start has a trail to the place.
     pub(crate) fn has(&self, place: Place) -> bool
-        ensures { IsTrue result ↔ IsMarked self.now.marks.bytes.items place }
+        ensures { IsTrue result ↔ IsMarkedPlace self.now.marks.bytes.items place }
     {
         self.marks.has(place)
     }
 
     /// Adds a place, unless it is there already or holds no CCW.
     fn add(&mut self, place: Option<Place>) -> Result<(), AllocError>
-        ensures { OnOk result (IsGrown (λ p. place ≡ Some p)
+        ensures { OnOk result (HaveMarksGrown (λ p. place ≡ Some p)
             self.old.marks.bytes.items self.old.pending.items
             self.new.marks.bytes.items self.new.pending.items) }
     {
@@ -77,7 +79,7 @@ impl Covered {
 
     /// Adds the places to which a place steps.
     fn step_on(&mut self, job: &Job, place: Place) -> Result<(), AllocError>
-        ensures { OnOk result (IsGrown (StepsTo job.now place)
+        ensures { OnOk result (HaveMarksGrown (StepsTo job.now place)
             self.old.marks.bytes.items self.old.pending.items
             self.new.marks.bytes.items self.new.pending.items) }
     {
@@ -93,9 +95,9 @@ impl Covered {
 
     /// Adds all places that a start has trails to.
     pub(crate) fn cover(&mut self, job: &Job, start: u32) -> Result<(), AllocError>
-        requires { IsSettled job.now self.old }
-        ensures settled { OnOk result (IsSettled job.now self.new) }
-        ensures covered { OnOk result (IsCovered job.now start
+        requires { IsFullyCovered job.now self.old }
+        ensures settled { OnOk result (IsFullyCovered job.now self.new) }
+        ensures covered { OnOk result (IsStartCovered job.now start
             self.old.marks.bytes.items self.new.marks.bytes.items) }
     {
         self.add(Some(start_at(start)))?;

@@ -1,14 +1,15 @@
 -- What is asked once, compared and granted is enough for a start.
-use Rattle.chan_needs.proofs.Names.{Acts, ap, Bool, eq-eqb, false, Flight, from_open, inl, inr}
-use Rattle.chan_needs.proofs.Names.{IsGuarded, IsHistory, IsSameIn, IsSome, IsVerdict, List, None}
-use Rattle.chan_needs.proofs.Names.{open_job, Option, refl, Rests, same_under_yes, Situation, Some}
-use Rattle.chan_needs.proofs.Names.{Spares, storage_of, subst, sym, true, Yes, ℕ, [], ◌∷◌, ◌≡◌, ◌⊎◌}
+use Rattle.chan_needs.proofs.Names.{ProgramActs, ap, Bool, eq-eqb, false, Flight, from_open, inl}
+use Rattle.chan_needs.proofs.Names.{inr, IsGuarded, IsHistory, IsSameIn, IsSome, IsVerdict, List}
+use Rattle.chan_needs.proofs.Names.{None, open_job, Option, refl, ProgramWaits, same_under_yes}
+use Rattle.chan_needs.proofs.Names.{Situation, Some, Spares, storage_of, subst, sym, true, Yes, ℕ}
+use Rattle.chan_needs.proofs.Names.{[], ◌∷◌, ◌≡◌, ◌⊎◌}
 use Rattle.std.proofs.Common.{◌==◌, ◌≢◌}
 use Rattle.std.proofs.lemmas.Bool.Decides.{eqb_tells}
-use Rattle.chan_needs.specs.Beside.{AreApart}
+use Rattle.chan_needs.specs.SideBySide.{AreJobsCompatible}
 use Rattle.chan_needs.specs.Asked.{AskedMayStart, EachMayLeave, EachMayStart, EachMayStep}
 use Rattle.chan_needs.specs.Asked.{OthersMayChange}
-use Rattle.chan_needs.proofs.Apart.{beside_is_apart}
+use Rattle.chan_needs.proofs.Compatible.{compatible_by_jobs}
 use Rattle.chan_needs.proofs.Needing.{least_job}
 
 pub asked_may_start : AskedMayStart
@@ -16,8 +17,8 @@ asked_may_start a j f h = record {
   mask = h.proper.2;
   verdict = yes;
   begins = record { storage = same; arm = h.arm; mask = h.mask; stage = h.stage; events = h.events };
-  spares = λ i g e. (apart i g e).one_spares;
-  spared = λ i g e. (apart i g e).other_spares;
+  spares = λ i g e. (compatible i g e).one_spares;
+  spared = λ i g e. (compatible i g e).other_spares;
 }
   where
     yes : IsVerdict f.job Yes
@@ -29,8 +30,8 @@ asked_may_start a j f h = record {
       same = λ b g. h.kept.same b (((same_under_yes (open_job j) f.job (from_open j f.job h.program) h.opened yes).1 b).1 g);
     })
 
-    apart : (i : ℕ) (g : Flight) → a.at i ≡ Some g → AreApart f.job g.job
-    apart i g e = let w = h.beside i g e in (beside_is_apart j w.0 f.job g.job h.program w.1.program h.proper w.1.proper yes w.1.verdict).0 w.2
+    compatible : (i : ℕ) (g : Flight) → a.at i ≡ Some g → AreJobsCompatible f.job g.job
+    compatible i g e = let w = h.compatible i g e in (compatible_by_jobs j w.0 f.job g.job h.program w.1.program h.proper w.1.proper yes w.1.verdict).0 w.2
 
 -- ---- what comes next in a history
 
@@ -45,7 +46,7 @@ pub moved_shared : (t : List ℕ) (x : Option Flight) (f : Flight) → all_moved
 moved_shared t None f e = absurd cc
 moved_shared t (Some g) f e = let s : moved t g ≡ f = cc in ap (λ (z : Flight). z.moment.storage) (sym s)
 
-pub moved_rests : (t : List ℕ) (x : Option Flight) → Rests x (all_moved t x)
+pub moved_rests : (t : List ℕ) (x : Option Flight) → ProgramWaits x (all_moved t x)
 moved_rests t None = tt
 moved_rests t (Some f) = (refl, record { arm = refl; mask = refl; stage = refl; events = refl })
 
@@ -80,16 +81,16 @@ module _ (a : Situation) (i : ℕ) (x : Option Flight) (t : List ℕ) (shares : 
   pub here : after.at i ≡ x
   here = ap (λ z. picked z x (all_moved t (a.at i))) (eq-eqb i i refl)
 
-  pub others : (k : ℕ) → (k ≡ i) ⊎ Rests (a.at k) (after.at k)
+  pub others : (k : ℕ) → (k ≡ i) ⊎ ProgramWaits (a.at k) (after.at k)
   others k = go (eqb_tells k i)
     where
-      go : (((k == i) ≡ true) × (k ≡ i)) ⊎ (((k == i) ≡ false) × (k ≢ i)) → (k ≡ i) ⊎ Rests (a.at k) (after.at k)
+      go : (((k == i) ≡ true) × (k ≡ i)) ⊎ (((k == i) ≡ false) × (k ≢ i)) → (k ≡ i) ⊎ ProgramWaits (a.at k) (after.at k)
       go (inl e) = inl e.1
-      go (inr e) = inr (subst (λ z. Rests (a.at k) (picked z x (all_moved t (a.at k)))) (sym e.0) (moved_rests t (a.at k)))
+      go (inr e) = inr (subst (λ z. ProgramWaits (a.at k) (picked z x (all_moved t (a.at k)))) (sym e.0) (moved_rests t (a.at k)))
 
-  acts_next : (before : List Situation) → IsHistory (a ∷ before) → Acts a after (a.at i) x
+  acts_next : (before : List Situation) → IsHistory (a ∷ before) → ProgramActs a after (a.at i) x
       → (b : Situation) × (b.storage ≡ t) × (b.at i ≡ x) × IsHistory (b ∷ a ∷ before)
-  acts_next before h acts = (after, refl, here, (h, inl (i, subst (λ y. Acts a after (a.at i) y) (sym here) acts, others)))
+  acts_next before h acts = (after, refl, here, (h, inl (i, subst (λ y. ProgramActs a after (a.at i) y) (sym here) acts, others)))
 
 -- the one program is this
 module _ (f : Flight) (t : List ℕ) (e : f.moment.storage ≡ t) where
@@ -99,13 +100,13 @@ module _ (f : Flight) (t : List ℕ) (e : f.moment.storage ≡ t) where
 pub each_may_start : EachMayStart
 each_may_start a before i f h free e may =
     let shares = shares_of f a.storage e in
-    acts_next a i (Some f) a.storage shares before h (subst (λ y. Acts a (after a i (Some f) a.storage shares) y (Some f)) (sym free) (may, refl))
+    acts_next a i (Some f) a.storage shares before h (subst (λ y. ProgramActs a (after a i (Some f) a.storage shares) y (Some f)) (sym free) (may, refl))
 
 pub each_may_step : EachMayStep
 each_may_step a before i f n h there step =
     let g : Flight = record f { moment = n } in
     let shares = shares_of g n.storage refl in
-    acts_next a i (Some g) n.storage shares before h (subst (λ y. Acts a (after a i (Some g) n.storage shares) y (Some g)) (sym there) (refl, step))
+    acts_next a i (Some g) n.storage shares before h (subst (λ y. ProgramActs a (after a i (Some g) n.storage shares) y (Some g)) (sym there) (refl, step))
 
 pub each_may_leave : EachMayLeave
 each_may_leave a before i h some = acts_next a i None a.storage (λ f e. absurd cc) before h (go (a.at i) some)
@@ -113,6 +114,6 @@ each_may_leave a before i h some = acts_next a i None a.storage (λ f e. absurd 
     b : Situation
     b = after a i None a.storage (λ f e. absurd cc)
 
-    go : (y : Option Flight) → IsSome y → Acts a b y None
+    go : (y : Option Flight) → IsSome y → ProgramActs a b y None
     go None s = absurd cc
     go (Some f) s = refl

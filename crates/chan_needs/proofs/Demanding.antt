@@ -17,8 +17,8 @@ use Rattle.ckd_core.specs.Command.{Entry as Command, lookup, class_passes, class
 use Rattle.ckd_core.specs.Command.{sets_mask}
 use Rattle.chan_walk.specs.Fault.{begins_set_mask}
 use Rattle.chan_walk.specs.Look.{IsLook}
-use Rattle.chan_walk.specs.Read.{byte_of}
-use Rattle.chan_needs.specs.Needs.{ServesAt, begins}
+use Rattle.chan_walk.specs.Operand.{byte_of}
+use Rattle.chan_needs.specs.Needs.{MaskServesAt, begins}
 use Rattle.chan_walk.specs.Place.{is_fresh}
 use Rattle.chan_walk.specs.Visit.{begun, begun_at}
 use Rattle.chan_walk.proofs.Theory.Commands.{known_is_no_transfer, mask_is_no_transfer}
@@ -61,14 +61,14 @@ module _ (j : Job) (p : Place) (k : Command) (h : begun p (ccw_of j p) ≡ Some 
   sets_it = rw found.0 (ap (class_passes class_sets_mask) found.1)
 
   -- a command of another class than Set File Mask
-  pub serves_command : class_sets_mask k.class ≡ false → (m : ℕ) → (inhibits_class m k.class ≡ false) ↔ ServesAt j p m
+  pub serves_command : class_sets_mask k.class ≡ false → (m : ℕ) → (inhibits_class m k.class ≡ false) ↔ MaskServesAt j p m
   serves_command other m = (
     (λ e. record { permits = λ _. inhibits_it m ∙ e; admits = λ s. absurd (both_ways _ other (sym sets_it ∙ s)) }),
     λ s. sym (inhibits_it m) ∙ s.permits here,
   )
 
   -- Set File Mask
-  pub serves_byte : k.class ≡ SetMask → (m : ℕ) → (is_at_least (byte (storage_of j) c.address) m ≡ true) ↔ ServesAt j p m
+  pub serves_byte : k.class ≡ SetMask → (m : ℕ) → (is_at_least (byte (storage_of j) c.address) m ≡ true) ↔ MaskServesAt j p m
   serves_byte same m = (
     (λ e. record { permits = λ _. inhibits_it m ∙ ap (inhibits_class m) same ∙ plain m; admits = λ _. e }),
     λ s. s.admits (sets_it ∙ ap class_sets_mask same),
@@ -77,18 +77,18 @@ module _ (j : Job) (p : Place) (k : Command) (h : begun p (ccw_of j p) ≡ Some 
       plain : (m : ℕ) → inhibits_class m SetMask ≡ false
       plain m = refl
 
-  pub bounds_at_command : class_sets_mask k.class ≡ false → AreBounds (ServesAt j p) (writes_up_to k.class) (seeks_up_to k.class)
-  bounds_at_command other = bounds_same _ (ServesAt j p) _ _ (serves_command other) (λ m. permits_when m k.class)
+  pub bounds_at_command : class_sets_mask k.class ≡ false → AreBounds (MaskServesAt j p) (writes_up_to k.class) (seeks_up_to k.class)
+  bounds_at_command other = bounds_same _ (MaskServesAt j p) _ _ (serves_command other) (λ m. permits_when m k.class)
 
   pub bounds_at_byte : k.class ≡ SetMask → IsClear j p
-      → AreBounds (ServesAt j p) (write_level (byte (storage_of j) c.address)) (seek_level (byte (storage_of j) c.address))
+      → AreBounds (MaskServesAt j p) (write_level (byte (storage_of j) c.address)) (seek_level (byte (storage_of j) c.address))
   bounds_at_byte same clear =
       let sets : begins_set_mask p c ≡ true = sets_it ∙ ap class_sets_mask same in
       let strict = (clear_good j p clear (mask_is_no_transfer c (and_parts _ _ sets).1)).strict sets in
-      bounds_same _ (ServesAt j p) _ _ (serves_byte same) (λ m. strict-levels _ m ((strict-permits _ j.mask).0 strict).0)
+      bounds_same _ (MaskServesAt j p) _ _ (serves_byte same) (λ m. strict-levels _ m ((strict-permits _ j.mask).0 strict).0)
 
 -- no command of the table
-pub serves_none : (j : Job) (p : Place) → begun p (ccw_of j p) ≡ None → (m : ℕ) → ServesAt j p m
+pub serves_none : (j : Job) (p : Place) → begun p (ccw_of j p) ≡ None → (m : ℕ) → MaskServesAt j p m
 unfolding inhibits sets_mask
 serves_none j p h m = record {
   permits = λ b. ap (class_passes (inhibits_class m)) (none_from p (ccw_of j p) h (and_parts _ _ b).0);
@@ -98,44 +98,45 @@ serves_none j p h m = record {
 -- ---- at one look
 
 module _ (j : Job) (l : Seen) (look : IsLook j l) (clear : IsClear j l.place) where
-  pub bounds_nothing : l.command ≡ None → AreBounds (ServesAt j l.place) 3 3
-  bounds_nothing e = bounds_of_any (ServesAt j l.place) (serves_none j l.place (sym (command_at j l look clear) ∙ e))
+  pub bounds_nothing : l.command ≡ None → AreBounds (MaskServesAt j l.place) 3 3
+  bounds_nothing e = bounds_of_any (MaskServesAt j l.place) (serves_none j l.place (sym (command_at j l look clear) ∙ e))
 
   other_class : (k : MaskClass) → (k ≡ SetMask → ⊥) → class_sets_mask k ≡ false
   other_class k f = search rules
 
-  pub bounds_class : (k : Command) → l.command ≡ Some k → (k.class ≡ SetMask → ⊥) → AreBounds (ServesAt j l.place) (writes_up_to k.class) (seeks_up_to k.class)
+  pub bounds_class : (k : Command) → l.command ≡ Some k → (k.class ≡ SetMask → ⊥)
+      → AreBounds (MaskServesAt j l.place) (writes_up_to k.class) (seeks_up_to k.class)
   bounds_class k e other = bounds_at_command j l.place k (sym (command_at j l look clear) ∙ e) (other_class k.class other)
 
   pub bounds_byte : (k : Command) → l.command ≡ Some k → k.class ≡ SetMask
-      → AreBounds (ServesAt j l.place) (write_level (byte_of l.read)) (seek_level (byte_of l.read))
+      → AreBounds (MaskServesAt j l.place) (write_level (byte_of l.operand)) (seek_level (byte_of l.operand))
   bounds_byte k e same =
       let h = sym (command_at j l look clear) ∙ e in
       let sets : begins_set_mask l.place (ccw_of j l.place) ≡ true = sets_it j l.place k h ∙ ap class_sets_mask same in
       let ccw = ccw_seen j l look (clear_stands j l.place clear) in
-      let is : byte_of l.read ≡ byte (storage_of j) (ccw_of j l.place).address =
-      byte_read (storage_of j) l.place (ccw_of j l.place) l.read sets (look.read clear (ccw_of j l.place) ccw) in
-      subst (λ b. AreBounds (ServesAt j l.place) (write_level b) (seek_level b)) (sym is) (bounds_at_byte j l.place k h same clear)
+      let is : byte_of l.operand ≡ byte (storage_of j) (ccw_of j l.place).address =
+      byte_read (storage_of j) l.place (ccw_of j l.place) l.operand sets (look.operand clear (ccw_of j l.place) ccw) in
+      subst (λ b. AreBounds (MaskServesAt j l.place) (write_level b) (seek_level b)) (sym is) (bounds_at_byte j l.place k h same clear)
 
 -- ---- at many
 
 -- the mask serves each of these places
 abbrev pub ServesEach : Job → List Place → ℕ → Type 0
-ServesEach j ps m = (p : Place) → Has ps p → ServesAt j p m
+ServesEach j ps m = (p : Place) → Has ps p → MaskServesAt j p m
 
 pub bounds_first : (j : Job) → AreBounds (ServesEach j []) 3 3
 bounds_first j = bounds_of_any (ServesEach j []) (λ m p h. absurd h)
 
 pub bounds_next : (j : Job) (ps : List Place) (p : Place) (w s v t : ℕ) → AreBounds (ServesEach j ps) w s
-    → AreBounds (ServesAt j p) v t → AreBounds (ServesEach j (ps ++ p ∷ [])) (min w v) (min s t)
+    → AreBounds (MaskServesAt j p) v t → AreBounds (ServesEach j (ps ++ p ∷ [])) (min w v) (min s t)
 bounds_next j ps p w s v t f g =
-    bounds_same (λ x. ServesEach j ps x × ServesAt j p x) (ServesEach j (ps ++ p ∷ [])) _ _
-    (λ x. (both x, parts x)) (bounds_of_both (ServesEach j ps) (ServesAt j p) w s v t f g)
+    bounds_same (λ x. ServesEach j ps x × MaskServesAt j p x) (ServesEach j (ps ++ p ∷ [])) _ _
+    (λ x. (both x, parts x)) (bounds_of_both (ServesEach j ps) (MaskServesAt j p) w s v t f g)
   where
-    both : (x : ℕ) → ServesEach j ps x × ServesAt j p x → ServesEach j (ps ++ p ∷ []) x
+    both : (x : ℕ) → ServesEach j ps x × MaskServesAt j p x → ServesEach j (ps ++ p ∷ []) x
     both x w q k = search (rules, has_cases)
 
-    parts : (x : ℕ) → ServesEach j (ps ++ p ∷ []) x → ServesEach j ps x × ServesAt j p x
+    parts : (x : ℕ) → ServesEach j (ps ++ p ∷ []) x → ServesEach j ps x × MaskServesAt j p x
     parts x w = ((λ q k. w q (has_left ps (p ∷ []) q k)), w p (has_right ps (p ∷ []) p (inl refl)))
 
 -- ---- at any clear place
@@ -159,10 +160,10 @@ sets_or_not WriteHome = inr refl
 sets_or_not WriteFormat = inr refl
 sets_or_not WriteUpdate = inr refl
 
-demand_of : (j : Job) (p : Place) → IsClear j p → HasBounds (ServesAt j p)
+demand_of : (j : Job) (p : Place) → IsClear j p → HasBounds (MaskServesAt j p)
 demand_of j p clear = go (begun p (ccw_of j p)) refl
   where
-    of_command : (k : Command) → begun p (ccw_of j p) ≡ Some k → (k.class ≡ SetMask) ⊎ (class_sets_mask k.class ≡ false) → HasBounds (ServesAt j p)
+    of_command : (k : Command) → begun p (ccw_of j p) ≡ Some k → (k.class ≡ SetMask) ⊎ (class_sets_mask k.class ≡ false) → HasBounds (MaskServesAt j p)
     of_command k h (inl same) =
         let b = byte (storage_of j) (ccw_of j p).address in
         let are = bounds_at_byte j p k h same clear in
@@ -175,8 +176,8 @@ demand_of j p clear = go (begun p (ccw_of j p)) refl
       are = bounds_at_command j p k h other;
     }
 
-    go : (o : Option Command) → begun p (ccw_of j p) ≡ o → HasBounds (ServesAt j p)
-    go None e = record { writes = 3; seeks = 3; few_writes = omega arith; few_seeks = omega arith; are = bounds_of_any (ServesAt j p) (serves_none j p e) }
+    go : (o : Option Command) → begun p (ccw_of j p) ≡ o → HasBounds (MaskServesAt j p)
+    go None e = record { writes = 3; seeks = 3; few_writes = omega arith; few_seeks = omega arith; are = bounds_of_any (MaskServesAt j p) (serves_none j p e) }
     go (Some k) e = of_command k e (sets_or_not k.class)
 
 pub demand_of_each : (j : Job) (ps : List Place) → ((p : Place) → Has ps p → IsClear j p) → HasBounds (ServesEach j ps)
@@ -189,15 +190,15 @@ demand_of_each j (p ∷ ps) clear =
       seeks = min a.seeks b.seeks;
       few_writes = omega (arith, a.few_writes);
       few_seeks = omega (arith, a.few_seeks);
-      are = bounds_same (λ x. ServesAt j p x × ServesEach j ps x) (ServesEach j (p ∷ ps)) _ _ (λ x. (both x, parts x))
-          (bounds_of_both (ServesAt j p) (ServesEach j ps) a.writes a.seeks b.writes b.seeks a.are b.are);
+      are = bounds_same (λ x. MaskServesAt j p x × ServesEach j ps x) (ServesEach j (p ∷ ps)) _ _ (λ x. (both x, parts x))
+          (bounds_of_both (MaskServesAt j p) (ServesEach j ps) a.writes a.seeks b.writes b.seeks a.are b.are);
     }
   where
-    both : (x : ℕ) → ServesAt j p x × ServesEach j ps x → ServesEach j (p ∷ ps) x
-    both x w q (inl e) = subst (λ r. ServesAt j r x) e w.0
+    both : (x : ℕ) → MaskServesAt j p x × ServesEach j ps x → ServesEach j (p ∷ ps) x
+    both x w q (inl e) = subst (λ r. MaskServesAt j r x) e w.0
     both x w q (inr h) = w.1 q h
 
-    parts : (x : ℕ) → ServesEach j (p ∷ ps) x → ServesAt j p x × ServesEach j ps x
+    parts : (x : ℕ) → ServesEach j (p ∷ ps) x → MaskServesAt j p x × ServesEach j ps x
     parts x w = (w p (inl refl), λ q h. w q (inr h))
 
 -- each place that was looked at under a yes is clear

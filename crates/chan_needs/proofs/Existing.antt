@@ -12,17 +12,18 @@ use Rattle.ccw_core.specs.Storage.{is_inside}
 use Rattle.chan_walk.specs.declared.successor.Next.{Next}
 use Rattle.chan_walk.specs.Places.{AreDistinct, HasMoreThan, place_number, AreReached}
 use Rattle.chan_walk.specs.Fault.{kind_of}
-use Rattle.chan_needs.specs.Needs.{NeededMaskExists, Serves}
+use Rattle.chan_needs.specs.Needs.{NeededMaskExists, MaskServes}
 use Rattle.chan_walk.specs.Place.{first_place}
 use Rattle.chan_walk.specs.Successor.{AreSuccessors, next_of, skip_of}
 use Rattle.chan_walk.specs.Verdict.{AreClear}
-use Rattle.chan_walk.specs.Walk.{Adds, IsWalked, Overflows}
+use Rattle.chan_walk.specs.Walk.{AddsPlace, IsWalked, HasNoRoomFor}
 use Rattle.chan_walk.proofs.Theory.Faults.{fault_unique}
 use Rattle.chan_walk.proofs.Theory.Lists.{has_at}
 use Rattle.chan_needs.proofs.Demanding.{ServesEach, demand_of_each, HasBounds}
-use Rattle.chan_walk.proofs.Algorithms.InOrder.{distinct, has_number}
+use Rattle.chan_walk.proofs.Algorithms.InOrder.{distinct_numbers, has_number}
 use Rattle.chan_walk.proofs.Algorithms.Marks.{same_number, way_small}
-use Rattle.chan_walk.proofs.Algorithms.Walking.{Leads, all_found, follows_exactly, next_overflows}
+use Rattle.chan_walk.proofs.Algorithms.Walking.{ChainLeads, all_found, follows_exactly}
+use Rattle.chan_walk.proofs.Algorithms.Walking.{next_overflows}
 use Rattle.chan_walk.proofs.Algorithms.Walking.{skip_overflows, walked_first, walked_on}
 use Rattle.std.proofs.lemmas.Option.{slice_get-get_or}
 use Rattle.ckd_core.specs.Levels.{mask_of}
@@ -44,12 +45,13 @@ has_or_not (p ∷ ps) q = go (cases_Bool (eqb (place_number p) (place_number q))
         absent (inl d) = absurd (both_ways _ e (subst (λ z. eqb (place_number p) (place_number z) ≡ true) d (eq-eqb (place_number p) (place_number p) refl)))
         absent (inr h) = n h
 
-adds_or_not : (n : ℕ) (o : Option Place) (ps : List Place) (fs : List ℕ) → ((qs : List Place) × (gs : List ℕ) × Adds n o 0 ps qs fs gs) ⊎ Overflows n o ps
+adds_or_not : (n : ℕ) (o : Option Place) (ps : List Place) (fs : List ℕ) → ((qs : List Place) × (gs : List ℕ) × AddsPlace n o 0 ps qs fs gs)
+    ⊎ HasNoRoomFor n o ps
 adds_or_not n None ps fs = inl (ps, fs, (refl, refl))
 adds_or_not n (Some q) ps fs = go (has_or_not ps q) (cases_lt (length ps) n)
   where
     go : Has ps q ⊎ (Has ps q → ⊥) → (length ps < n) ⊎ (n ≤ length ps)
-        → ((qs : List Place) × (gs : List ℕ) × Adds n (Some q) 0 ps qs fs gs) ⊎ Overflows n (Some q) ps
+        → ((qs : List Place) × (gs : List ℕ) × AddsPlace n (Some q) 0 ps qs fs gs) ⊎ HasNoRoomFor n (Some q) ps
     go (inl h) l = inl (ps, fs, inl (h, refl, refl))
     go (inr f) (inl l) = inl (ps ++ q ∷ [], fs ++ 0 ∷ [], inr (f, refl, l, refl))
     go (inr f) (inr l) = inr (f, l)
@@ -67,12 +69,12 @@ module _ (j : Job) (clear : AreClear j) where
   few : (ps : List Place) → AreDistinct ps → ((p : Place) → Has ps p → IsReachable j p) → length ps ≤ bound
   few ps apart only =
       let l : length (map place_number ps) ≤ bound =
-      length-le_from_distinct_below (map place_number ps) bound (distinct place_number same_number ps apart)
+      length-le_from_distinct_below (map place_number ps) bound (distinct_numbers place_number same_number ps apart)
       (λ k h. let r = has_number k ps h in subst (λ n. n < bound) r.2 (below r.0 (only r.0 r.1))) in
       omega (arith, l, length-map ps place_number)
 
   no_more : HasMoreThan j bound → ⊥
-  no_more m = let l = few m.places m.apart m.only in absurd (omega (arith, l, m.many))
+  no_more m = let l = few m.places m.distinct m.only in absurd (omega (arith, l, m.many))
 
   next_at : (p : Place) → IsReachable j p → (n : Next) × AreSuccessors j p n
   next_at p r = (
@@ -89,16 +91,16 @@ module _ (j : Job) (clear : AreClear j) where
       n : (n : Next) × AreSuccessors j p n
       n = next_at p (w.only p (has_at ps i p (slice_get-get_or ps i (first_place j) h)))
 
-      leads : Leads j ps i n.0
+      leads : ChainLeads j ps i n.0
       leads = record { from = p; there = slice_get-get_or ps i (first_place j) h; each = follows_exactly j p n.0 n.1 }
 
-      on : (a : (qs : List Place) × (gs : List ℕ) × Adds bound n.0.next 0 ps qs [] gs)
-          → ((rs : List Place) × (hs : List ℕ) × Adds bound n.0.skip 0 a.0 rs a.1 hs) ⊎ Overflows bound n.0.skip a.0
+      on : (a : (qs : List Place) × (gs : List ℕ) × AddsPlace bound n.0.next 0 ps qs [] gs)
+          → ((rs : List Place) × (hs : List ℕ) × AddsPlace bound n.0.skip 0 a.0 rs a.1 hs) ⊎ HasNoRoomFor bound n.0.skip a.0
           → (qs : List Place) × IsWalked j bound qs (i + 1)
       on a (inl b) = (b.0, walked_on j bound n.0 0 ps a.0 b.0 [] a.1 b.1 i w h leads a.2 b.2)
       on a (inr o) = absurd (no_more (skip_overflows j bound n.0 0 ps a.0 [] a.1 i w leads a.2 o))
 
-      go : ((qs : List Place) × (gs : List ℕ) × Adds bound n.0.next 0 ps qs [] gs) ⊎ Overflows bound n.0.next ps
+      go : ((qs : List Place) × (gs : List ℕ) × AddsPlace bound n.0.next 0 ps qs [] gs) ⊎ HasNoRoomFor bound n.0.next ps
           → (qs : List Place) × IsWalked j bound qs (i + 1)
       go (inl a) = on a (adds_or_not bound n.0.skip a.0 a.1)
       go (inr o) = absurd (no_more (next_overflows j bound n.0 ps i w leads o))
@@ -126,7 +128,8 @@ module _ (j : Job) (clear : AreClear j) where
 pub needed_mask_exists : NeededMaskExists
 needed_mask_exists j v = (
   mask_of b.writes b.seeks,
-  strictest (Serves j) b.writes b.seeks b.few_writes b.few_seeks (bounds_same (ServesEach k all.0) (Serves j) b.writes b.seeks (λ m. (to m, from m)) b.are),
+  strictest (MaskServes j) b.writes b.seeks b.few_writes b.few_seeks
+      (bounds_same (ServesEach k all.0) (MaskServes j) b.writes b.seeks (λ m. (to m, from m)) b.are),
 )
   where
     k : Job
@@ -138,8 +141,8 @@ needed_mask_exists j v = (
     b : HasBounds (ServesEach k all.0)
     b = demand_of_each k all.0 (λ p h. yes_clear k v p (all.1.1 p h))
 
-    to : (m : ℕ) → ServesEach k all.0 m → Serves j m
+    to : (m : ℕ) → ServesEach k all.0 m → MaskServes j m
     to m s p r = let at = s p (all.1.0 p r) in record { permits = at.permits; admits = at.admits }
 
-    from : (m : ℕ) → Serves j m → ServesEach k all.0 m
+    from : (m : ℕ) → MaskServes j m → ServesEach k all.0 m
     from m s p h = let at = s p (all.1.1 p h) in record { permits = at.permits; admits = at.admits }

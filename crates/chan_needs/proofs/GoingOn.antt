@@ -1,10 +1,11 @@
 -- What the calls allow a supervisor may happen, and so may each step and each end.
-use Rattle.chan_needs.proofs.Names.{Acts, ap, eq-eqb, false, Flight, inl, inr, IsSome, List, None}
-use Rattle.chan_needs.proofs.Names.{Option, refl, Remembered, Rests, Some, subst, sym, true, ℕ, ◌∙◌}
-use Rattle.chan_needs.proofs.Names.{◌∷◌, ◌≡◌, ◌⊎◌}
+use Rattle.chan_needs.proofs.Names.{ProgramActs, ap, eq-eqb, false, Flight, inl, inr, IsSome, List}
+use Rattle.chan_needs.proofs.Names.{None, Option, refl, Remembered, ProgramWaits, Some, subst, sym}
+use Rattle.chan_needs.proofs.Names.{true, ℕ, ◌∙◌, ◌∷◌, ◌≡◌, ◌⊎◌}
 use Rattle.std.proofs.Common.{◌≢◌, ◌==◌}
 use Rattle.std.proofs.lemmas.Bool.Decides.{eqb_tells}
-use Rattle.chan_needs.specs.Supervised.{IsAllowed, IsSupervised, RestsAt, StartsAt, SupervisedGoesOn, Supervision}
+use Rattle.chan_needs.specs.Supervised.{IsAllowed, IsSupervised, ProgramWaitsAt, ProgramStartsAt}
+use Rattle.chan_needs.specs.Supervised.{SupervisedGoesOn, Supervision}
 use Rattle.chan_needs.proofs.Beginning.{after, here, moved_rests, others, picked, rewritten}
 use Rattle.chan_needs.proofs.Beginning.{shares_of}
 
@@ -15,11 +16,11 @@ module _ (v : Supervision) (i : ℕ) (x : Option Flight) (p : Option Remembered)
   noted_here : next.programs i ≡ p
   noted_here = ap (λ z. picked z p (v.programs i)) (eq-eqb i i refl)
 
-  rest_others : (k : ℕ) → (k ≡ i) ⊎ RestsAt v next k
+  rest_others : (k : ℕ) → (k ≡ i) ⊎ ProgramWaitsAt v next k
   rest_others k = go (eqb_tells k i) (others v.situation i x t shares k)
     where
       go : (((k == i) ≡ true) × (k ≡ i)) ⊎ (((k == i) ≡ false) × (k ≢ i))
-          → (k ≡ i) ⊎ Rests (v.situation.at k) (next.situation.at k) → (k ≡ i) ⊎ RestsAt v next k
+          → (k ≡ i) ⊎ ProgramWaits (v.situation.at k) (next.situation.at k) → (k ≡ i) ⊎ ProgramWaitsAt v next k
       go (inl e) r = inl e.1
       go (inr e) (inl r) = inl r
       go (inr e) (inr r) = inr (r, ap (λ z. picked z p (v.programs k)) e.0)
@@ -30,7 +31,7 @@ module _ (v : Supervision) (i : ℕ) (x : Option Flight) (p : Option Remembered)
 -- a program in flight goes on, or leaves
 acts_on : (v : Supervision) (before : List Supervision) (i : ℕ) (x : Option Flight) (p : Option Remembered) (t : List ℕ)
     (shares : (f : Flight) → x ≡ Some f → f.moment.storage ≡ t)
-    → IsSupervised (v ∷ before) → IsSome (v.situation.at i) → Acts v.situation (next v i x p t shares).situation (v.situation.at i) x
+    → IsSupervised (v ∷ before) → IsSome (v.situation.at i) → ProgramActs v.situation (next v i x p t shares).situation (v.situation.at i) x
     → (IsSome x → p ≡ v.programs i) → IsSupervised (next v i x p t shares ∷ v ∷ before)
 acts_on v before i x p t shares run there acts noted = (
   run,
@@ -38,7 +39,7 @@ acts_on v before i x p t shares run there acts noted = (
     i,
     inr (record {
       there = there;
-      acts = subst (λ y. Acts v.situation (next v i x p t shares).situation (v.situation.at i) y) (sym (here_next v i x p t shares)) acts;
+      acts = subst (λ y. ProgramActs v.situation (next v i x p t shares).situation (v.situation.at i) y) (sym (here_next v i x p t shares)) acts;
       noted = λ some. noted_here v i x p t shares ∙ noted (subst IsSome (here_next v i x p t shares) some);
     }),
     rest_others v i x p t shares,
@@ -61,7 +62,8 @@ supervised_goes_on = record {
         next v i (Some g) (v.programs i) n.storage shares,
         here_next v i (Some g) (v.programs i) n.storage shares,
         acts_on v before i (Some g) (v.programs i) n.storage shares run (subst IsSome (sym there) refl)
-            (subst (λ y. Acts v.situation (next v i (Some g) (v.programs i) n.storage shares).situation y (Some g)) (sym there) (refl, step)) (λ some. refl),
+            (subst (λ y. ProgramActs v.situation (next v i (Some g) (v.programs i) n.storage shares).situation y (Some g)) (sym there) (refl, step))
+            (λ some. refl),
       );
   leaves = λ v before i run there. (
     next v i None None v.situation.storage (none_shares v),
@@ -78,7 +80,7 @@ supervised_goes_on = record {
   where
     -- a program that may start is there, and remembered
     starts_next : (v : Supervision) (i : ℕ) (s : IsAllowed v i)
-        → StartsAt v (next v i (Some s.flight) (Some s.program) v.situation.storage (shares_of s.flight v.situation.storage s.storage)) i
+        → ProgramStartsAt v (next v i (Some s.flight) (Some s.program) v.situation.storage (shares_of s.flight v.situation.storage s.storage)) i
     starts_next v i s =
         let shares = shares_of s.flight v.situation.storage s.storage in
         record {
@@ -95,6 +97,6 @@ supervised_goes_on = record {
     none_some e = absurd cc
 
     leaves : (v : Supervision) (i : ℕ) (y : Option Flight) → IsSome y
-        → Acts v.situation (next v i None None v.situation.storage (none_shares v)).situation y None
+        → ProgramActs v.situation (next v i None None v.situation.storage (none_shares v)).situation y None
     leaves v i None some = absurd cc
     leaves v i (Some f) some = refl

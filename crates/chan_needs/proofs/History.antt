@@ -1,8 +1,8 @@
 -- Programs that start and leave at any time: each in flight is at the newest moment of a run among others, and all are apart.
-use Rattle.chan_needs.proofs.Names.{Acts, ap, ComesNext, Flight, inl, inr, IsGuarded, IsHistory}
-use Rattle.chan_needs.proofs.Names.{IsSameIn, IsVerdict, Job, List, MayStart, MayStoreOver, None}
-use Rattle.chan_needs.proofs.Names.{Option, refl, Rests, Situation, Some, Spares, storage_of, subst}
-use Rattle.chan_needs.proofs.Names.{sym, Yes, ℕ, [], ◌∙◌, ◌∷◌, ◌≡◌, ◌⊎◌}
+use Rattle.chan_needs.proofs.Names.{ProgramActs, ap, IsNextSituation, Flight, inl, inr, IsGuarded}
+use Rattle.chan_needs.proofs.Names.{IsHistory, IsSameIn, IsVerdict, Job, List, MayStart}
+use Rattle.chan_needs.proofs.Names.{MayStoreOver, None, Option, refl, ProgramWaits, Situation, Some}
+use Rattle.chan_needs.proofs.Names.{Spares, storage_of, subst, sym, Yes, ℕ, [], ◌∙◌, ◌∷◌, ◌≡◌, ◌⊎◌}
 use Rattle.std.specs.List.{AllByRecursion}
 use Rattle.chan_walk.specs.Headline.{IsSpared}
 use Rattle.chan_needs.specs.History.{Begins, IsWell, AreWell, StaysWell}
@@ -28,7 +28,7 @@ record Kept (j : Job) (m : Moment) : Type 0 where
 -- of all of them
 record Sound (a : Situation) : Type 0 where
   kept : (i : ℕ) (f : Flight) → a.at i ≡ Some f → Kept f.job f.moment
-  apart : (i k : ℕ) (f g : Flight) → a.at i ≡ Some f → a.at k ≡ Some g → MayStoreOver f.job (IsGuarded g.job) → ⊥
+  compatible : (i k : ℕ) (f g : Flight) → a.at i ≡ Some f → a.at k ≡ Some g → MayStoreOver f.job (IsGuarded g.job) → ⊥
 
 -- a program that begins has waited since it was asked about
 begun : (j : Job) (m : Moment) → Begins j m → (before : List Moment) × IsSpared j (m ∷ before)
@@ -64,7 +64,10 @@ goes_kept : (j k : Job) (m n : Moment) → k ≡ j → Goes j m n → Kept j m �
 goes_kept j k m n e w h = subst (λ z. Kept z n) (sym e) (record { mask = h.mask; verdict = h.verdict; before = m ∷ h.before; spared = (h.spared, w) })
 
 next_sound : (a b : Situation) → Next a b → Sound a → Sound b
-next_sound a b next sound = record { kept = λ i g e. kept i g (next.each i g e); apart = λ i k f g d e. apart i k f g (next.each i f d) (next.each k g e) }
+next_sound a b next sound = record {
+  kept = λ i g e. kept i g (next.each i g e);
+  compatible = λ i k f g d e. compatible i k f g (next.each i f d) (next.each k g e);
+}
   where
     kept : (i : ℕ) (g : Flight) → (next.new ≡ Some g) ⊎ Was a i g → Kept g.job g.moment
     kept i g (inl e) =
@@ -73,20 +76,20 @@ next_sound a b next sound = record { kept = λ i g e. kept i g (next.each i g e)
         record { mask = may.mask; verdict = may.verdict; before = r.0; spared = r.1 }
     kept i g (inr w) = goes_kept w.f.job g.job w.f.moment g.moment w.same w.goes (sound.kept i w.f w.there)
 
-    apart : (i k : ℕ) (f g : Flight) → (next.new ≡ Some f) ⊎ Was a i f → (next.new ≡ Some g) ⊎ Was a k g → MayStoreOver f.job (IsGuarded g.job) → ⊥
-    apart i k f g (inl d) (inl e) =
+    compatible : (i k : ℕ) (f g : Flight) → (next.new ≡ Some f) ⊎ Was a i f → (next.new ≡ Some g) ⊎ Was a k g → MayStoreOver f.job (IsGuarded g.job) → ⊥
+    compatible i k f g (inl d) (inl e) =
         let s : Some f ≡ Some g = sym d ∙ e in
         let t : f ≡ g = cc in
         subst (λ (z : Flight). MayStoreOver f.job (IsGuarded z.job) → ⊥) t (no_change f.job (next.may f d).verdict)
-    apart i k f g (inl d) (inr w) = subst (λ z. MayStoreOver f.job (IsGuarded z) → ⊥) (sym w.same) ((next.may f d).spares k w.f w.there)
-    apart i k f g (inr v) (inl e) = subst (λ z. MayStoreOver z (IsGuarded g.job) → ⊥) (sym v.same) ((next.may g e).spared i v.f v.there)
-    apart i k f g (inr v) (inr w) =
+    compatible i k f g (inl d) (inr w) = subst (λ z. MayStoreOver f.job (IsGuarded z) → ⊥) (sym w.same) ((next.may f d).spares k w.f w.there)
+    compatible i k f g (inr v) (inl e) = subst (λ z. MayStoreOver z (IsGuarded g.job) → ⊥) (sym v.same) ((next.may g e).spared i v.f v.there)
+    compatible i k f g (inr v) (inr w) =
         subst (λ z. MayStoreOver z (IsGuarded g.job) → ⊥) (sym v.same)
-        (subst (λ z. MayStoreOver v.f.job (IsGuarded z) → ⊥) (sym w.same) (sound.apart i k v.f w.f v.there w.there))
+        (subst (λ z. MayStoreOver v.f.job (IsGuarded z) → ⊥) (sym w.same) (sound.compatible i k v.f w.f v.there w.there))
 
 module _ (a b : Situation) (sound : Sound a) where
   -- one that waits while storage stays, or changes in no byte that it guards
-  waited : (i : ℕ) (g : Flight) (x : Option Flight) → a.at i ≡ x → b.at i ≡ Some g → Rests x (Some g)
+  waited : (i : ℕ) (g : Flight) (x : Option Flight) → a.at i ≡ x → b.at i ≡ Some g → ProgramWaits x (Some g)
       → ((f : Flight) → a.at i ≡ Some f → IsSameIn (IsGuarded f.job) a.storage b.storage) → Was a i g
   waited i g None d e r h = absurd r
   waited i g (Some f) d e r h =
@@ -108,44 +111,44 @@ module _ (a b : Situation) (sound : Sound a) where
   stays e P = subst (IsSameIn P a.storage) (sym e) (record { same_length = refl; same = λ z u. refl })
 
   -- one acts, at i
-  acts : (i : ℕ) (x y : Option Flight) → a.at i ≡ x → b.at i ≡ y → Acts a b x y → ((k : ℕ) → (k ≡ i) ⊎ Rests (a.at k) (b.at k)) → Next a b
+  acts : (i : ℕ) (x y : Option Flight) → a.at i ≡ x → b.at i ≡ y → ProgramActs a b x y → ((k : ℕ) → (k ≡ i) ⊎ ProgramWaits (a.at k) (b.at k)) → Next a b
   acts i None None d e w r = absurd w
   acts i None (Some f) d e w r = record { new = Some f; may = λ g z. let t : f ≡ g = cc in subst (MayStart a) t w.0; each = λ k g z. each k g z (r k) }
     where
-      each : (k : ℕ) (g : Flight) → b.at k ≡ Some g → (k ≡ i) ⊎ Rests (a.at k) (b.at k) → (Some f ≡ Some g) ⊎ Was a k g
+      each : (k : ℕ) (g : Flight) → b.at k ≡ Some g → (k ≡ i) ⊎ ProgramWaits (a.at k) (b.at k) → (Some f ≡ Some g) ⊎ Was a k g
       each k g z (inl h) = inl (sym e ∙ sym (ap b.at h) ∙ z)
-      each k g z (inr h) = inr (waited k g (a.at k) refl z (subst (Rests (a.at k)) z h) (λ f _. stays w.1 (IsGuarded f.job)))
+      each k g z (inr h) = inr (waited k g (a.at k) refl z (subst (ProgramWaits (a.at k)) z h) (λ f _. stays w.1 (IsGuarded f.job)))
   acts i (Some f) None d e w r = record { new = None; may = λ g z. absurd cc; each = λ k g z. inr (each k g z (r k)) }
     where
-      each : (k : ℕ) (g : Flight) → b.at k ≡ Some g → (k ≡ i) ⊎ Rests (a.at k) (b.at k) → Was a k g
+      each : (k : ℕ) (g : Flight) → b.at k ≡ Some g → (k ≡ i) ⊎ ProgramWaits (a.at k) (b.at k) → Was a k g
       each k g z (inl h) = let s : None ≡ Some g = sym e ∙ sym (ap b.at h) ∙ z in absurd cc
-      each k g z (inr h) = waited k g (a.at k) refl z (subst (Rests (a.at k)) z h) (λ f _. stays w (IsGuarded f.job))
+      each k g z (inr h) = waited k g (a.at k) refl z (subst (ProgramWaits (a.at k)) z h) (λ f _. stays w (IsGuarded f.job))
   acts i (Some f) (Some g) d e w r = record { new = None; may = λ h z. absurd cc; each = λ k h z. inr (each k h z (r k)) }
     where
       spared : (k : ℕ) (h : Flight) → a.at k ≡ Some h → IsSameIn (IsGuarded h.job) a.storage b.storage
       spared k h z =
           let kept = sound.kept i f d in
-          seen f.job kept.verdict (IsGuarded h.job) (sound.apart i k f h d z) f.moment g.moment
+          seen f.job kept.verdict (IsGuarded h.job) (sound.compatible i k f h d z) f.moment g.moment
           kept.before kept.spared w.1 a.storage b.storage (sym (a.shared i f d)) (sym (b.shared i g e))
 
-      each : (k : ℕ) (h : Flight) → b.at k ≡ Some h → (k ≡ i) ⊎ Rests (a.at k) (b.at k) → Was a k h
+      each : (k : ℕ) (h : Flight) → b.at k ≡ Some h → (k ≡ i) ⊎ ProgramWaits (a.at k) (b.at k) → Was a k h
       each k h z (inl q) =
           let s : Some g ≡ Some h = sym e ∙ sym (ap b.at q) ∙ z in
           let t : g ≡ h = cc in
           subst (Was a k) t (record { f = f; there = ap a.at q ∙ d; same = w.0; goes = inl w.1 })
-      each k h z (inr q) = waited k h (a.at k) refl z (subst (Rests (a.at k)) z q) (spared k)
+      each k h z (inr q) = waited k h (a.at k) refl z (subst (ProgramWaits (a.at k)) z q) (spared k)
 
-  next : ComesNext a b → Next a b
+  next : IsNextSituation a b → Next a b
   next (inl w) = acts w.0 (a.at w.0) (b.at w.0) refl refl w.1 w.2
-  next (inr w) = record { new = None; may = λ f z. absurd cc; each = λ k g z. inr (waits k g z (subst (Rests (a.at k)) z (w k).0) (w k).1) }
+  next (inr w) = record { new = None; may = λ f z. absurd cc; each = λ k g z. inr (waits k g z (subst (ProgramWaits (a.at k)) z (w k).0) (w k).1) }
     where
       -- each waits, while storage changes in no byte that it guards
-      waits : (k : ℕ) (g : Flight) → b.at k ≡ Some g → Rests (a.at k) (Some g) → Spares (a.at k) a.storage b.storage → Was a k g
+      waits : (k : ℕ) (g : Flight) → b.at k ≡ Some g → ProgramWaits (a.at k) (Some g) → Spares (a.at k) a.storage b.storage → Was a k g
       waits k g z r h = waited k g (a.at k) refl z r (λ f d. subst (λ x. Spares x a.storage b.storage) d h)
 
 all_sound : (history : List Situation) → IsHistory history → AllByRecursion Sound history
 all_sound [] h = absurd h
-all_sound (a ∷ []) h = (record { kept = λ i f e. absurd (none i f e); apart = λ i k f g d e u. none i f d }, tt)
+all_sound (a ∷ []) h = (record { kept = λ i f e. absurd (none i f e); compatible = λ i k f g d e u. none i f d }, tt)
   where
     none : (i : ℕ) (f : Flight) → a.at i ≡ Some f → ⊥
     none i f e = let s : None ≡ Some f = sym (h i) ∙ e in absurd cc

@@ -7,7 +7,7 @@ use Rattle.std.proofs.lemmas.List.{drop_all}
 use Rattle.ccw_core.proofs.Covering.{lies_in-at}
 use Rattle.chan_areas.specs.Merged.{IsLeastOf}
 use Rattle.chan_areas.proofs.Merging.{bytes_from}
-use Rattle.chan_needs.specs.Rows.{IsShared}
+use Rattle.chan_needs.specs.Listed.{IsShared}
 
 -- no area
 abbrev pub nowhere : Area

@@ -1,9 +1,8 @@
 -- What a program keeps lies in storage, and how many bytes that is.
 use Rattle.chan_needs.proofs.Names.{All, and_parts, ap, Area, arith, ccw_of, end_of, get_or, Has}
-use Rattle.chan_needs.proofs.Names.{inl, inr, IsClear, IsGuarded, IsMerged, Job, leb-true}
-use Rattle.chan_needs.proofs.Names.{length, lies_in, List, open_job, refl, storage_of}
-use Rattle.chan_needs.proofs.Names.{subst, suc, take, true, zero, ℕ, [], ◌++◌, ◌+◌, ◌-◌, ◌<◌}
-use Rattle.chan_needs.proofs.Names.{◌∙◌, ◌∷◌, ◌≡◌, ◌≤◌, ◌⊎◌}
+use Rattle.chan_needs.proofs.Names.{inl, inr, IsClear, IsGuarded, IsMerged, Job, leb-true, length}
+use Rattle.chan_needs.proofs.Names.{lies_in, List, open_job, refl, storage_of, subst, suc, take}
+use Rattle.chan_needs.proofs.Names.{true, zero, ℕ, [], ◌++◌, ◌+◌, ◌-◌, ◌<◌, ◌∙◌, ◌∷◌, ◌≡◌, ◌≤◌, ◌⊎◌}
 use Rattle.std.proofs.lemmas.List.{length-append, take_all, take_more}
 use Rattle.std.proofs.lemmas.List.Elements.{All-cons, All-head, All-nil, All-tail}
 use Rattle.ccw_core.specs.Storage.{is_inside, Stands}
@@ -17,10 +16,10 @@ use Rattle.chan_walk.proofs.Theory.Checks.{passed}
 use Rattle.chan_walk.proofs.Theory.Commands.{mask_is_no_transfer}
 use Rattle.chan_walk.proofs.Theory.Faults.{clear_check}
 use Rattle.chan_walk.proofs.Theory.OwnFaults.{data_in_storage}
-use Rattle.ccw_core.specs.Ccw.{is_counted}
+use Rattle.ccw_core.specs.Ccw.{has_count}
 use Rattle.std.proofs.lemmas.Bool.{ltb-true}
 use Rattle.chan_needs.specs.Remembered.{IsInside, bytes_in, total_len}
-use Rattle.chan_needs.specs.Rows.{AreNeeds, Listed}
+use Rattle.chan_needs.specs.Listed.{AreNeeds, Listed}
 use Rattle.chan_needs.proofs.Copied.{bytes_of, length_of}
 use Rattle.chan_needs.proofs.Holding.{nowhere}
 
@@ -36,7 +35,7 @@ has_below n (x ∷ xs) b below (inl e) = subst (λ y. y < n) e (below 0)
 has_below n (x ∷ xs) b below (inr h) = has_below n xs b (λ i. below (suc i)) h
 
 mask_inside : (j : Job) (p : Place) (b : ℕ) → IsClear j p → IsMaskByte (storage_of j) p b → b < length (storage_of j)
-unfolding is_counted
+unfolding has_count
 mask_inside j p b clear m =
     let checked = clear_check j p clear in
     let stays = mask_is_no_transfer (ccw_of j p) (and_parts (is_fresh p.entered) _ m.sets).1 in

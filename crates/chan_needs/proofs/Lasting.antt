@@ -1,20 +1,22 @@
 -- A write that lasts: while it is in the table, no program starts that keeps a byte of its area.
 use Rattle.chan_needs.proofs.Names.{Area, Flight, Has, inl, inr, IsSome, List, None, Option, refl}
-use Rattle.chan_needs.proofs.Names.{Remembered, Rests, Some, subst, sym, ℕ, [], ◌∙◌, ◌∷◌, ◌≡◌, ◌⊎◌}
+use Rattle.chan_needs.proofs.Names.{Remembered, ProgramWaits, Some, subst, sym, ℕ, [], ◌∙◌, ◌∷◌}
+use Rattle.chan_needs.proofs.Names.{◌≡◌, ◌⊎◌}
 use Rattle.std.specs.List.{All}
 use Rattle.std.proofs.lemmas.Bool.{both_ways}
 use Rattle.std.proofs.lemmas.List.Elements.{All-cons, All-head, All-nil, All-tail}
 use Rattle.chan_needs.specs.Remembered.{KeepsNone}
-use Rattle.chan_needs.specs.Start.{IsBeside}
-use Rattle.chan_needs.specs.Supervised.{GoesOn, GoesOnAt, IsLastingWrite, IsListedAt, IsSparedBy}
-use Rattle.chan_needs.specs.Supervised.{LastingWrites, RestsAt, StartsAt, Supervision}
+use Rattle.chan_needs.specs.Start.{IsCompatibleWith}
+use Rattle.chan_needs.specs.Supervised.{SupervisionGoesOn, ProgramGoesOnAt, IsLastingWrite}
+use Rattle.chan_needs.specs.Supervised.{IsListedAt, IsSparedBy}
+use Rattle.chan_needs.specs.Supervised.{LastingWrites, ProgramWaitsAt, ProgramStartsAt, Supervision}
 
 none_kept : (f : Remembered) (area : Area) → IsLastingWrite area f → KeepsNone area f
 none_kept f area write b k = both_ways _ (write.keeps b) k.0
 
 -- a program beside the write keeps no byte of the area
-beside_keeps_none : (f p : Remembered) (area : Area) → IsLastingWrite area f → IsBeside p f → KeepsNone area p
-beside_keeps_none f p area write beside b k = beside.other_spares b (write.stores b k.1, k.0)
+compatible_keeps_none : (f p : Remembered) (area : Area) → IsLastingWrite area f → IsCompatibleWith p f → KeepsNone area p
+compatible_keeps_none f p area write compatible b k = compatible.other_spares b (write.stores b k.1, k.0)
 
 of_all : {X : Type 0} (P : X → Type 0) (xs : List X) (x : X) → All P xs → Has xs x → P x
 of_all P [] x all h = absurd h
@@ -25,27 +27,29 @@ to_all : {X : Type 0} (P : X → Type 0) (xs : List X) → ((x : X) → Has xs x
 to_all P [] f = All-nil P
 to_all P (y ∷ xs) f = All-cons P y xs (f y (inl refl)) (to_all P xs (λ x h. f x (inr h)))
 
-was_there : (a b : Option Flight) → Rests a b → IsSome b → IsSome a
+was_there : (a b : Option Flight) → ProgramWaits a b → IsSome b → IsSome a
 was_there None None r some = absurd cc
 was_there None (Some g) r some = absurd r
 was_there (Some f) b r some = refl
 
 module _ (f : Remembered) (area : Area) (v w : Supervision) (write : IsLastingWrite area f) (spared : IsSparedBy area v) where
-  rests : (i : ℕ) (p : Remembered) → RestsAt v w i → IsSome (w.situation.at i) → w.programs i ≡ Some p → KeepsNone area p
+  rests : (i : ℕ) (p : Remembered) → ProgramWaitsAt v w i → IsSome (w.situation.at i) → w.programs i ≡ Some p → KeepsNone area p
   rests i p r some noted = spared i p (was_there (v.situation.at i) (w.situation.at i) r.0 some) (sym r.1 ∙ noted)
 
-  acts : (i : ℕ) (p : Remembered) → IsListedAt f v w → StartsAt v w i ⊎ GoesOnAt v w i → IsSome (w.situation.at i) → w.programs i ≡ Some p → KeepsNone area p
+  acts : (i : ℕ) (p : Remembered) → IsListedAt f v w → ProgramStartsAt v w i ⊎ ProgramGoesOnAt v w i → IsSome (w.situation.at i) → w.programs i ≡ Some p
+      → KeepsNone area p
   acts i p listed (inl s) some noted =
       let same : s.allowed.program ≡ p = cc in
       subst (KeepsNone area) same
-      (beside_keeps_none f s.allowed.program area write (of_all (IsBeside s.allowed.program) s.allowed.in_flight f s.allowed.answer.beside (listed i s)))
+      (compatible_keeps_none f s.allowed.program area write
+      (of_all (IsCompatibleWith s.allowed.program) s.allowed.in_flight f s.allowed.answer.compatible (listed i s)))
   acts i p listed (inr g) some noted = spared i p g.there (sym (g.noted some) ∙ noted)
 
-  stays : GoesOn v w → IsListedAt f v w → IsSparedBy area w
+  stays : SupervisionGoesOn v w → IsListedAt f v w → IsSparedBy area w
   stays (inr writing) listed i p some noted = rests i p (writing.1 i) some noted
   stays (inl goes) listed i p some noted = go (goes.2 i)
     where
-      go : (i ≡ goes.0) ⊎ RestsAt v w i → KeepsNone area p
+      go : (i ≡ goes.0) ⊎ ProgramWaitsAt v w i → KeepsNone area p
       go (inr r) = rests i p r some noted
       go (inl e) = acts goes.0 p listed goes.1 (subst (λ k. IsSome (w.situation.at k)) e some) (subst (λ k. w.programs k ≡ Some p) e noted)
 

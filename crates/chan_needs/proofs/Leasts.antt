@@ -1,19 +1,18 @@
--- The least byte or cylinder of rows for which something holds, row by row.
+-- The least byte or cylinder of lists for which something holds, element by element.
 use Rattle.chan_needs.proofs.Names.{and_from, and_parts, Area, AreExactly, arith, both_ways}
 use Rattle.chan_needs.proofs.Names.{cases_lt, drop, end_of, false, get_or, has_cylinder, inl, inr}
 use Rattle.chan_needs.proofs.Names.{IsByteOf, IsLeastOrNone, IsMerged, le-leb, leb-true, length}
 use Rattle.chan_needs.proofs.Names.{lies_in, lies_in-cases, lies_in-nil, List, map, nat_le, None}
-use Rattle.chan_needs.proofs.Names.{Option}
-use Rattle.chan_needs.proofs.Names.{rules, Some, subst, suc, sym, take, true, zero, ℕ, [], ◌++◌}
-use Rattle.chan_needs.proofs.Names.{◌+◌, ◌<◌, ◌↔◌, ◌∷◌, ◌≡◌, ◌≤◌, ◌⊎◌}
+use Rattle.chan_needs.proofs.Names.{Option, rules, Some, subst, suc, sym, take, true, zero, ℕ, []}
+use Rattle.chan_needs.proofs.Names.{◌++◌, ◌+◌, ◌<◌, ◌↔◌, ◌∷◌, ◌≡◌, ◌≤◌, ◌⊎◌}
 use Rattle.std.proofs.Common.{◌&&◌, ◌||◌}
 use Rattle.std.proofs.lemmas.Bool.{false_from_ne_true, or_cases, or_left, or_right}
 use Rattle.std.proofs.lemmas.List.{map-append, take_all, take_more}
 use Rattle.std.proofs.lemmas.List.Folds.{list_any-append}
 use Rattle.chan_areas.specs.Merged.{BeginAbove}
 use Rattle.chan_needs.specs.LeastBytes.{lesser_of}
-use Rattle.chan_needs.specs.Rows.{pair}
-use Rattle.chan_needs.specs.declared.extent.Extent.{Extent}
+use Rattle.chan_needs.specs.Listed.{pair}
+use Rattle.chan_needs.specs.declared.layout.Extent.{Extent}
 use Rattle.chan_needs.proofs.Holding.{nowhere}
 use Rattle.chan_areas.proofs.Gaps.{least_same}
 use Rattle.chan_areas.proofs.Merging.{lies_in-append, lies_in-first}
@@ -27,9 +26,9 @@ least_either P Q R split one other None (Some n) h k = search (rules, split, oth
 least_either P Q R split one other (Some m) None h k = search (rules, split, one)
 least_either P Q R split one other (Some m) (Some n) h k = search (rules, split, one, other, cases_lt)
 
--- ---- row by row
+-- ---- element by element
 
--- the least so far, and that of one row more
+-- the least so far, and that of one element more
 least_more : (Old Here New P : ℕ → Type 0) (o p q : Option ℕ) → ((b : ℕ) → New b ↔ (Old b ⊎ Here b)) → q ≡ lesser_of o p
     → IsLeastOrNone (λ b. Old b × P b) o → IsLeastOrNone (λ b. Here b × P b) p → IsLeastOrNone (λ b. New b × P b) q
 least_more Old Here New P o p q more e h k =
@@ -82,7 +81,7 @@ least_run xs i P o p q l =
     least_more (λ n. has_cylinder (map pair (take i xs)) n ≡ true) (InRun (pair (get_or xs i no_run)))
     (λ n. has_cylinder (map pair (take (i + 1) xs)) n ≡ true) P o p q (λ n. runs_more xs i n l)
 
--- before the first row, and after the last
+-- before the first element, and after the last
 pub no_byte : (b : ℕ) → lies_in [] b ≡ true → ⊥
 no_byte b h = both_ways _ (lies_in-nil b) h
 

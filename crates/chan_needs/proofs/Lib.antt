@@ -2,7 +2,7 @@ pub mod Names
 pub mod Needing
 pub mod Masking
 pub mod Asking
-pub mod Beside
+pub mod SideBySide
 pub mod History
 pub mod Remembering
 pub mod Beginning
@@ -17,7 +17,7 @@ pub mod Inside
 pub mod Kept
 pub mod Copied
 pub mod Seeking
-pub mod Apart
+pub mod Compatible
 pub mod Possible
 pub mod Naming
 pub mod Staying

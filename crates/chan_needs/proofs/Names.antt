@@ -6,12 +6,13 @@ pub use Rattle.ccw_core.specs.Held.{bytes_held}
 pub use Rattle.ccw_core.specs.declared.areas.Area.{Area}
 pub use Rattle.chan_areas.proofs.Merging.{lies_in-cases}
 pub use Rattle.chan_areas.specs.Merged.{AreExactly, IsByteOf, IsLeastOrNone, IsMerged}
-pub use Rattle.chan_needs.specs.History.{Acts, ComesNext, Flight, IsHistory, MayStart, Rests}
+pub use Rattle.chan_needs.specs.History.{ProgramActs, IsNextSituation, Flight, IsHistory, MayStart}
+pub use Rattle.chan_needs.specs.History.{ProgramWaits}
 pub use Rattle.chan_needs.specs.History.{Situation, Spares}
 pub use Rattle.chan_needs.specs.Needs.{Grants, IsKept, IsNeededForStoring}
 pub use Rattle.chan_needs.specs.Remembered.{HoldsAreas}
-pub use Rattle.chan_needs.specs.Rows.{AreBounds, AreLooksOfYes, SeeksCylinder, run_of}
-pub use Rattle.chan_needs.specs.declared.remembered.Remembered.{Remembered}
+pub use Rattle.chan_needs.specs.Listed.{AreBounds, AreLooksOfYes, SeeksCylinder, run_of}
+pub use Rattle.chan_needs.specs.declared.layout.Remembered.{Remembered}
 pub use Rattle.chan_walk.proofs.Algorithms.Guarding.{HoldBytes}
 pub use Rattle.chan_walk.proofs.Algorithms.Opened.{from_open, to_open}
 pub use Rattle.chan_walk.proofs.Theory.Faults.{clear_stands, yes_clear}

@@ -8,7 +8,7 @@ use Rattle.chan_areas.specs.Merged.{IsLeastOf}
 use Rattle.chan_needs.specs.History.{GoesOnToStorage}
 use Rattle.chan_needs.specs.Remembered.{IsFirstChanged, IsFirstChangedIn, IsInFlightAt}
 use Rattle.chan_needs.specs.Remembered.{IsKeeperOf, KeepsNone, NamedIsFirst}
-use Rattle.chan_needs.specs.Rows.{IsKeptIn, rows_of}
+use Rattle.chan_needs.specs.Listed.{IsKeptIn, listed_in}
 
 pub goes_on_to_storage : GoesOnToStorage
 goes_on_to_storage history t goes = goes
@@ -20,7 +20,7 @@ same_number m n up down = omega (arith, up, down)
 
 -- no program before number i keeps a byte of the area, so one that does has no smaller number
 not_before : (fs : List Remembered) (a : Area) (i j b : ℕ) (f : Remembered)
-    → AllWithin (KeepsNone a) fs 0 i → IsInFlightAt fs j f → IsKeptIn (rows_of f.rows) a b → i ≤ j
+    → AllWithin (KeepsNone a) fs 0 i → IsInFlightAt fs j f → IsKeptIn (listed_in f.needs) a b → i ≤ j
 not_before fs a i j b f none at kept = go (cases_lt j i)
   where
     go : (j < i) ⊎ (i ≤ j) → i ≤ j
@@ -37,7 +37,7 @@ one_keeper : (fs : List Remembered) (a : Area) (i j b c : ℕ) → IsKeeperOf fs
 one_keeper fs a i j b c one other =
     let same : i ≡ j = same_number i j (not_before fs a i j c other.0 one.2 other.1 other.3.0) (not_before fs a j i b one.0 other.2 one.1 one.3.0) in
     let program = same_program fs i j one.0 other.0 same one.1 other.1 in
-    (same, least_is_one (subst (λ (f : Remembered). IsLeastOf (IsKeptIn (rows_of f.rows) a) b) program one.3) other.3)
+    (same, least_is_one (subst (λ (f : Remembered). IsLeastOf (IsKeptIn (listed_in f.needs) a) b) program one.3) other.3)
 
 -- ---- the byte that has changed
 

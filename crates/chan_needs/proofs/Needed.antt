@@ -13,12 +13,12 @@ use Rattle.chan_walk.specs.declared.verdict.Verdict.{Verdict}
 use Rattle.chan_walk.specs.Seeks.{SeeksTo}
 use Rattle.chan_walk.specs.Fault.{begins_recalibrate, begins_set_mask, fetches}
 use Rattle.chan_walk.specs.Job.{extents_of, fetch_of, store_of}
-use Rattle.chan_needs.specs.Needs.{IsNeededCylinder, IsStrictest, Serves, ServesAt, begins}
+use Rattle.chan_needs.specs.Needs.{IsNeededCylinder, IsStrictest, MaskServes, MaskServesAt, begins}
 use Rattle.chan_walk.specs.Moved.{IsDataOf, IsFetchedFrom}
 use Rattle.chan_walk.specs.Offence.{FirstIsVerdict, first_verdict}
-use Rattle.chan_needs.specs.Start.{RowsAreExact, GrantsListed}
-use Rattle.chan_needs.specs.Rows.{AreNeeds, HasStoreAndKeep, IsSought, Listed, IsShared}
-use Rattle.chan_needs.specs.Rows.{MayRunBeside}
+use Rattle.chan_needs.specs.Start.{ListedIsExact, GrantsListed}
+use Rattle.chan_needs.specs.Listed.{AreNeeds, HasStoreAndKeep, IsSought, Listed, IsShared}
+use Rattle.chan_needs.specs.Listed.{AreProgramsCompatible, pair}
 use Rattle.chan_walk.specs.JobSurvey.{IsSurvey, Surveyed}
 use Rattle.chan_walk.proofs.Theory.Faults.{clear_check}
 use Rattle.chan_walk.proofs.Theory.Granting.{fetches_parts, stores_parts, turned, ccw_over}
@@ -32,7 +32,7 @@ use Rattle.chan_needs.proofs.Masking.{strictest_same}
 -- ---- from one job to another of its program
 
 module _ (j k : Job) (one : AreOfOneProgram j k) where
-  serves_over : (p : Place) (m : ℕ) → ServesAt j p m → ServesAt k p m
+  serves_over : (p : Place) (m : ℕ) → MaskServesAt j p m → MaskServesAt k p m
   serves_over p m h = record {
     permits = subst (λ c. begins p c ≡ true → inhibits m c.command ≡ false) (ccw_over j k one p) h.permits;
     admits = subst (λ s. begins_set_mask p (ccw s p.address) ≡ true → is_at_least (byte s (ccw s p.address).address) m ≡ true) one.storage h.admits;
@@ -51,7 +51,7 @@ pub record AreFound (k : Job) (ps : List Place) (n : Listed) (cylinders : List A
   pub storage_len : n.storage_len ≡ length (storage_of k)
   pub mask : IsStrictest (ServesEach k ps) n.mask
   pub sought : AreExactly (IsSought k) cylinders
-  pub runs : n.extents ≡ map run_of cylinders
+  pub runs : n.extents ≡ map pair (map run_of cylinders)
   pub fetch : AreExactly (IsFetchedFrom k) n.fetch
   pub store : AreExactly (IsStoredInto k) n.store
   pub keep : AreExactly (IsGuarded k) n.keep
@@ -61,7 +61,7 @@ pub are_needs : (j k : Job) (ls : List Seen) (n : Listed) (cylinders : List Area
 are_needs j k ls n cylinders one are found = record {
   verdict = granted;
   storage_len = found.storage_len ∙ ap length (sym one.storage);
-  mask = strictest_same (ServesEach k ps) (Serves j) n.mask served found.mask;
+  mask = strictest_same (ServesEach k ps) (MaskServes j) n.mask served found.mask;
   extents = runs_of (IsSought k) (IsNeededCylinder j) cylinders n.extents sought found.sought found.runs;
   fetch = record { merged = found.fetch.merged; bytes = λ b. both (found.fetch.bytes b) (moved fetches b) };
   store = record { merged = found.store.merged; bytes = λ b. both (found.store.bytes b) (moved stores b) };
@@ -86,7 +86,7 @@ are_needs j k ls n cylinders one are found = record {
     moved : (test : Place → Fields → Bool) (b : ℕ) → IsDataOf test k b ↔ IsDataOf test (open_job j) b
     moved = data_under_yes k (open_job j) there are.verdict granted
 
-    served : (m : ℕ) → ServesEach k ps m ↔ Serves j m
+    served : (m : ℕ) → ServesEach k ps m ↔ MaskServes j m
     served m = (
       (λ f p r.
           let h = f p (are.reached.0 p ((same.0 p).1 r)) in
@@ -113,7 +113,7 @@ survey_looks k s ls is none law e =
       reached = r.1;
     }
 
--- ---- what rows of needs say of a job
+-- ---- what lists of needs say of a job
 
 module _ (j : Job) (n : Listed) (h : AreNeeds j n) where
   -- each byte that is needed is one of storage
@@ -132,7 +132,7 @@ module _ (j : Job) (n : Listed) (h : AreNeeds j n) where
   store_inside = inside stores (λ p c m. (stores_parts p c m).0) n.store h.store
 
   module _ (k : Job) where
-    -- the areas lent have all bytes of a row
+    -- the areas lent have all bytes of a listed one
     abbrev pub Lent : List Area → List Area → Type 0
     Lent areas lent = (b : ℕ) → lies_in areas b ≡ true → lies_in lent b ≡ true
 
@@ -161,7 +161,7 @@ module _ (j : Job) (n : Listed) (h : AreNeeds j n) where
 
 -- ---- side by side
 
--- no byte that one program needs for storing is kept by the other, where their rows share none
+-- no byte that one program needs for storing is kept by the other, where their lists share none
 spares : (j k : Job) (n m : Listed) → HasStoreAndKeep j n → HasStoreAndKeep k m
     → ((b : ℕ) → IsShared n.store m.keep b → ⊥) → (b : ℕ) → IsNeededForStoring j b → IsKept k b → ⊥
 spares j k n m f g never b s t = never b ((f.store.bytes b).1 s, (g.keep.bytes b).1 t)
@@ -170,16 +170,16 @@ shared : (j k : Job) (n m : Listed) → HasStoreAndKeep j n → HasStoreAndKeep 
     → ((b : ℕ) → IsNeededForStoring j b → IsKept k b → ⊥) → (b : ℕ) → IsShared n.store m.keep b → ⊥
 shared j k n m f g never b s = never b ((f.store.bytes b).0 s.0) ((g.keep.bytes b).0 s.1)
 
--- where rows are true, two that share nothing may run beside one another
-pub may_run_beside : (j k : Job) (n m : Listed) → HasStoreAndKeep j n → HasStoreAndKeep k m
-    → ((b : ℕ) → IsShared n.store m.keep b → ⊥) → ((b : ℕ) → IsShared m.store n.keep b → ⊥) → MayRunBeside j k
-may_run_beside j k n m f g one other = record { one_spares = spares j k n m f g one; other_spares = spares k j m n g f other }
+-- where lists are true, two that share nothing may run beside one another
+pub are_compatible : (j k : Job) (n m : Listed) → HasStoreAndKeep j n → HasStoreAndKeep k m
+    → ((b : ℕ) → IsShared n.store m.keep b → ⊥) → ((b : ℕ) → IsShared m.store n.keep b → ⊥) → AreProgramsCompatible j k
+are_compatible j k n m f g one other = record { one_spares = spares j k n m f g one; other_spares = spares k j m n g f other }
 
-pub rows_are_exact : RowsAreExact
-rows_are_exact = record {
+pub listed_is_exact : ListedIsExact
+listed_is_exact = record {
   grants = λ j k n h e. granted j n h k e;
-  beside = λ j k n m f g. (
-    (λ are. may_run_beside j k n m f g are.one_spares are.other_spares),
+  compatible = λ j k n m f g. (
+    (λ are. are_compatible j k n m f g are.one_spares are.other_spares),
     λ may. record { one_spares = shared j k n m f g may.one_spares; other_spares = shared k j m n g f may.other_spares },
   );
 }

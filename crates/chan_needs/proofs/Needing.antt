@@ -5,8 +5,8 @@ use Rattle.chan_needs.proofs.Names.{from_open, Grants, has_cylinder, HasArgument
 use Rattle.chan_needs.proofs.Names.{is_at_least, IsClear, IsGuarded, IsKept, IsProper, IsReachable}
 use Rattle.chan_needs.proofs.Names.{IsVerdict, Job, le-leb, length, lies_in, List, nat_le, None}
 use Rattle.chan_needs.proofs.Names.{open_job, Option, Place, refl, same_under_yes, Some, storage_of}
-use Rattle.chan_needs.proofs.Names.{subst, sym, to_open, true, Yes, yes_clear, ℕ, [], ◌+◌, ◌<◌, ◌↔◌}
-use Rattle.chan_needs.proofs.Names.{◌∷◌, ◌≡◌, ◌≤◌, ◌⊎◌}
+use Rattle.chan_needs.proofs.Names.{subst, sym, to_open, true, Yes, yes_clear, ℕ, ◌+◌, ◌<◌, ◌↔◌}
+use Rattle.chan_needs.proofs.Names.{◌≡◌, ◌≤◌, ◌⊎◌}
 use Rattle.std.proofs.Common.{nat_lt}
 use Rattle.std.proofs.lemmas.Bool.{not-true, not-false, not_from_true, not_from_false, lt-ltb}
 use Rattle.ccw_core.specs.Ccw.{is_transfer}
@@ -30,12 +30,14 @@ use Rattle.chan_walk.proofs.Theory.Granting.{allows_from, clear_over, reach_clea
 use Rattle.chan_walk.proofs.Theory.Granting.{more_is_yes}
 use Rattle.ccw_core.proofs.Covering.{covered-true}
 use Rattle.chan_walk.proofs.Theory.Masks.{laxer_permits, strict_as_laxer, strict_as_open}
+use Rattle.ckd_core.specs.declared.device.TheConstants.{CYLINDERS, LAST_CYLINDER}
+use Rattle.ckd_core.specs.Extents.{all_cylinders}
 
 -- ---- the open job
 
-open_has : (n : ℕ) → n ≤ 202 → has_cylinder ((0, 202) ∷ []) n ≡ true
+open_has : (n : ℕ) → n ≤ LAST_CYLINDER → has_cylinder all_cylinders n ≡ true
 unfolding has_cylinder
-open_has n h = let d : nat_le 0 n ≡ true = le-leb 0 n (omega arith) in let e : nat_le n 202 ≡ true = le-leb n 202 h in rw (d, e) refl
+open_has n h = let d : nat_le 0 n ≡ true = le-leb 0 n (omega arith) in let e : nat_le n LAST_CYLINDER ≡ true = le-leb n LAST_CYLINDER h in rw (d, e) refl
 
 all_lie : (j : Job) (b : ℕ) → b < length (storage_of j) → lies_in (all_storage j) b ≡ true
 unfolding lies_in
@@ -47,7 +49,7 @@ all_lie j b h =
 pub opens : (j k : Job) → AreOfOneProgram j k → IsProper k → GrantsMore k (open_job j)
 opens j k one proper = record {
   mask = strict_as_open k.mask proper.2;
-  extents = λ n h. go n h (cases_lt n 203);
+  extents = λ n h. go n h (cases_lt n CYLINDERS);
   fetch = λ b lt h. lie b lt;
   store = λ b lt h. lie b lt;
 }
@@ -55,7 +57,7 @@ opens j k one proper = record {
     lie : (b : ℕ) → b < length (storage_of k) → lies_in (all_storage j) b ≡ true
     lie b lt = all_lie j b (subst (λ s. b < length s) (sym one.storage) lt)
 
-    go : (n : ℕ) → has_cylinder (extents_of k) n ≡ true → (n < 203) ⊎ (203 ≤ n) → has_cylinder ((0, 202) ∷ []) n ≡ true
+    go : (n : ℕ) → has_cylinder (extents_of k) n ≡ true → (n < CYLINDERS) ⊎ (CYLINDERS ≤ n) → has_cylinder all_cylinders n ≡ true
     go n h (inl lt) = open_has n (omega arith)
     go n h (inr le) = absurd (both_ways _ (has_cylinder-past (extents_of k) n proper.0.1 le) h)
 

@@ -2,7 +2,7 @@
 use Rattle.chan_needs.proofs.Names.{arith, Has, inl, inr, List, None, refl, Remembered, Situation}
 use Rattle.chan_needs.proofs.Names.{suc, ℕ, [], ◌∷◌}
 use Rattle.chan_needs.specs.Asked.{HistoryBegins}
-use Rattle.chan_needs.specs.Beside.{MayRunTogether}
+use Rattle.chan_needs.specs.SideBySide.{MayRunTogether}
 use Rattle.chan_needs.specs.Remembered.{IsInFlightAt}
 use Rattle.chan_needs.specs.Supervised.{CanBeSupervised}
 

@@ -9,16 +9,16 @@ use Rattle.chan_needs.proofs.Names.{stores, subst, sym, to_open, true, Yes, yes_
 use Rattle.chan_needs.proofs.Names.{◌-◌, ◌<◌, ◌↔◌, ◌∙◌, ◌∷◌, ◌≡◌, ◌⊎◌}
 use Rattle.ckd_core.specs.declared.device.Device.{Device}
 use Rattle.ckd_core.specs.declared.device.Device.TheVariants.{D2311, D2314}
-use Rattle.chan_walk.specs.Counted.{IsCounted, with_storage}
+use Rattle.chan_walk.specs.VerdictBytes.{IsVerdictByte, with_storage}
 use Rattle.chan_needs.specs.Needs.{KeepsProgram}
 use Rattle.chan_needs.specs.Remembered.{AreInFlight, IsInFlight, IsRemembered, KeepsNone}
 use Rattle.chan_needs.specs.Remembered.{IsInFlightAt, IsWritten, WritesWell, device_number}
-use Rattle.chan_needs.specs.Start.{IsFit, IsBeside, RememberedIsFit, StartsWell}
-use Rattle.chan_needs.specs.Rows.{HasStoreAndKeep, Listed, MayRunBeside, rows_of}
+use Rattle.chan_needs.specs.Start.{IsFit, IsCompatibleWith, RememberedIsFit, StartsWell}
+use Rattle.chan_needs.specs.Listed.{HasStoreAndKeep, Listed, AreProgramsCompatible, listed_in}
 use Rattle.chan_needs.specs.Asked.{FitIsAsked, IsFlightOf}
-use Rattle.chan_walk.proofs.Algorithms.Counted.{carries_at}
-use Rattle.chan_needs.proofs.Needed.{grants_from, may_run_beside, rows_are_exact}
-use Rattle.chan_walk.proofs.Machine.Again.{counted_is_guarded, yes_by_guarded}
+use Rattle.chan_walk.proofs.Algorithms.VerdictBytes.{carries_at}
+use Rattle.chan_needs.proofs.Needed.{grants_from, are_compatible, listed_is_exact}
+use Rattle.chan_walk.proofs.Machine.Again.{verdict_byte_is_guarded, yes_by_guarded}
 use Rattle.chan_needs.proofs.Asking.{asked_once}
 use Rattle.chan_needs.proofs.Beginning.{asked_may_start, others_may_change}
 use Rattle.chan_walk.proofs.Theory.Transport.{CarriesOver, same_guarded, same_data}
@@ -37,8 +37,8 @@ module _ (j k : Job) (keeps : KeepsProgram j k) (v : IsVerdict (open_job j) Yes)
   abbrev pub there : Job
   there = with_storage (open_job j) k.storage
 
-  pub counted : IsSameIn (IsCounted (open_job j)) (storage_of j) (storage_of k)
-  counted = record { same_length = keeps.storage.same_length; same = λ b c. keeps.storage.same b (counted_is_guarded (open_job j) v b c) }
+  pub counted : IsSameIn (IsVerdictByte (open_job j)) (storage_of j) (storage_of k)
+  counted = record { same_length = keeps.storage.same_length; same = λ b c. keeps.storage.same b (verdict_byte_is_guarded (open_job j) v b c) }
 
   pub yes_there : IsVerdict there Yes
   yes_there = yes_by_guarded (open_job j) k.storage v keeps.storage
@@ -71,9 +71,9 @@ module _ (j k : Job) (keeps : KeepsProgram j k) (v : IsVerdict (open_job j) Yes)
       both (same_data (open_job j) there refl carry (yes_clear (open_job j) v) (yes_clear there yes_there) stores b)
       (data_under_yes there (open_job k) open_there yes_there yes_open stores b)
 
-  -- so what rows say of storing and keeping stays true
-  pub rows_stay : (n : Listed) → HasStoreAndKeep j n → HasStoreAndKeep k n
-  rows_stay n h = record {
+  -- so what lists say of storing and keeping stays true
+  pub lists_stay : (n : Listed) → HasStoreAndKeep j n → HasStoreAndKeep k n
+  lists_stay n h = record {
     store = record { merged = h.store.merged; bytes = λ b. both (h.store.bytes b) (stored_same b) };
     keep = record { merged = h.keep.merged; bytes = λ b. both (h.keep.bytes b) (kept_same b) };
   }
@@ -81,12 +81,12 @@ module _ (j k : Job) (keeps : KeepsProgram j k) (v : IsVerdict (open_job j) Yes)
 -- ---- a program in flight
 
 module _ (p : Remembered) (k : Job) (h : IsInFlight p k) where
-  pub rows_in_flight : HasStoreAndKeep k (rows_of p.rows)
-  rows_in_flight = rows_stay h.asked k h.program h.needs.verdict (rows_of p.rows) (record { store = h.needs.store; keep = h.needs.keep })
+  pub listed_in_flight : HasStoreAndKeep k (listed_in p.needs)
+  listed_in_flight = lists_stay h.asked k h.program h.needs.verdict (listed_in p.needs) (record { store = h.needs.store; keep = h.needs.keep })
 
   -- what it guards is listed
-  pub guarded_listed : (b : ℕ) → IsGuarded k b → lies_in p.rows.keep.now b ≡ true
-  guarded_listed b g = (rows_in_flight.keep.bytes b).1 (((yes_is_open k h.proper h.verdict).1 b).0 g)
+  pub guarded_listed : (b : ℕ) → IsGuarded k b → lies_in p.needs.keep.now b ≡ true
+  guarded_listed b g = (listed_in_flight.keep.bytes b).1 (((yes_is_open k h.proper h.verdict).1 b).0 g)
 
 -- what holds of all holds of number n
 at_number : (P : Remembered → Type 0) (fs : List Remembered) (n : ℕ) (f : Remembered) → All P fs → IsInFlightAt fs n f → P f
@@ -132,7 +132,7 @@ module _ (j : Job) (p : Remembered) (fs : List Remembered) (proper : IsProper j)
   keeps = record {
     storage = record {
       same_length = fit.program.storage_len ∙ remembered.needs.storage_len;
-      same = λ b g. same_held (storage_of asked) (storage_of j) p.rows.keep.now p.kept.now b remembered.kept fit.kept ((remembered.needs.keep.bytes b).1 g);
+      same = λ b g. same_held (storage_of asked) (storage_of j) p.needs.keep.now p.kept.now b remembered.kept fit.kept ((remembered.needs.keep.bytes b).1 g);
     };
     start = remembered.start ∙ sym fit.program.start;
     device = same_device asked.device j.device (remembered.device ∙ sym fit.program.device);
@@ -140,7 +140,7 @@ module _ (j : Job) (p : Remembered) (fs : List Remembered) (proper : IsProper j)
 
   grants : Grants asked j
   grants =
-      grants_from asked (rows_of p.rows) remembered.needs j fit.granted.mask fit.granted.extents
+      grants_from asked (listed_in p.needs) remembered.needs j fit.granted.mask fit.granted.extents
       (λ b l. (fit.granted.fetch b l).1) (λ b l. (fit.granted.store b l).1)
 
   verdict : IsVerdict j Yes
@@ -152,12 +152,13 @@ module _ (j : Job) (p : Remembered) (fs : List Remembered) (proper : IsProper j)
   least : IsVerdict (open_job j) Yes × Grants j j
   least = (least_job j j itself proper).0 verdict
 
-  beside : (g : Flight) → (n : ℕ) × (f : Remembered) × IsInFlightAt fs n f × IsInFlight f g.job → (k : Job) × IsFlightOf k g × MayRunBeside j k
-  beside g (n, f, number, flight) =
-      let b : IsBeside p f = at_number (IsBeside p) fs n f fit.beside number in (
+  compatible : (g : Flight) → (n : ℕ) × (f : Remembered) × IsInFlightAt fs n f × IsInFlight f g.job → (k : Job) × IsFlightOf k g × AreProgramsCompatible j k
+  compatible g (n, f, number, flight) =
+      let b : IsCompatibleWith p f = at_number (IsCompatibleWith p) fs n f fit.compatible number in (
         g.job,
         record { program = record { storage = refl; start = refl; device = refl }; proper = flight.proper; verdict = flight.verdict },
-        may_run_beside j g.job (rows_of p.rows) (rows_of f.rows) (rows_in_flight p j in_flight) (rows_in_flight f g.job flight) b.one_spares b.other_spares,
+        are_compatible j g.job (listed_in p.needs) (listed_in f.needs) (listed_in_flight p j in_flight) (listed_in_flight f g.job flight)
+            b.one_spares b.other_spares,
       )
 
 pub fit_is_asked : FitIsAsked
@@ -171,19 +172,19 @@ fit_is_asked j a f p fs remembered flying proper fit start = record {
   mask = start.mask;
   stage = start.stage;
   events = start.events;
-  beside = λ i g e. beside f.job p fs proper fit j remembered g (flying i g e);
+  compatible = λ i g e. compatible f.job p fs proper fit j remembered g (flying i g e);
 }
 
 pub remembered_is_fit : RememberedIsFit
-remembered_is_fit j k p fs r keeps held grants beside = record {
+remembered_is_fit j k p fs r keeps held grants compatible = record {
   program = record {
     start = sym keeps.start ∙ r.start;
     device = ap device_number (sym keeps.device) ∙ r.device;
     storage_len = keeps.storage.same_length ∙ sym r.needs.storage_len;
   };
   kept = held;
-  granted = (rows_are_exact.grants j k (rows_of p.rows) r.needs (keeps.storage.same_length ∙ sym r.needs.storage_len)).1 grants;
-  beside = beside;
+  granted = (listed_is_exact.grants j k (listed_in p.needs) r.needs (keeps.storage.same_length ∙ sym r.needs.storage_len)).1 grants;
+  compatible = compatible;
 }
 
 pub starts_well : (j : Job) (p : Remembered) (fs : List Remembered) → IsProper j → IsFit j p fs → StartsWell j p fs

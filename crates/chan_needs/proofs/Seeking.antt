@@ -23,7 +23,7 @@ use Rattle.chan_walk.specs.Places.{AreReached}
 use Rattle.chan_walk.specs.Look.{IsLook}
 use Rattle.chan_walk.specs.Place.{is_fresh}
 use Rattle.chan_areas.specs.Merged.{BeginAbove}
-use Rattle.chan_needs.specs.Rows.{AreRising, AreRunsOf, IsSought, RunsAbove}
+use Rattle.chan_needs.specs.Listed.{AreRising, AreRunsOf, IsSought, RunsAbove, pair}
 use Rattle.chan_walk.specs.Visit.{begun}
 use Rattle.chan_walk.proofs.Theory.Chains.{argument_unique}
 use Rattle.chan_needs.proofs.Demanding.{command_at, fresh_from, none_from}
@@ -31,6 +31,7 @@ use Rattle.chan_walk.proofs.Algorithms.Guarding.{adds_areas, lies_in-bytes}
 use Rattle.chan_areas.proofs.Merging.{lies_in-first, lies_in-rest}
 use Rattle.chan_walk.proofs.Algorithms.Looking.{argument_of, argument_read, ccw_seen}
 use Rattle.chan_walk.proofs.Theory.Granting.{avoids}
+use Rattle.chan_needs.specs.declared.layout.Extent.{Extent}
 
 -- ---- at one look
 
@@ -87,18 +88,18 @@ module _ (j : Job) (l : Seen) (look : IsLook j l) (clear : IsClear j l.place) wh
         from (x, inl s, at) = absurd (both_ways _ (seeks_it ∙ ap class_is_seek f) s.0)
         from (x, inr s, at) = ap Some (sym (ap cylinder_of s.1) ∙ at)
 
-    pub goes_seeking : class_is_seek k.class ≡ true → class_recalibrates k.class ≡ false → GoesTo j l.place (option_map cylinder_of (argument_of l.read))
-    goes_seeking f g n = (to (argument_of l.read) has, from)
+    pub goes_seeking : class_is_seek k.class ≡ true → class_recalibrates k.class ≡ false → GoesTo j l.place (option_map cylinder_of (argument_of l.operand))
+    goes_seeking f g n = (to (argument_of l.operand) has, from)
       where
-        has : HasArgument (storage_of j) p.address (argument_of l.read)
-        has = argument_read (storage_of j) p c l.read (seeks_it ∙ f) (look.read clear c (ccw_seen j l look (clear_stands j p clear)))
+        has : HasArgument (storage_of j) p.address (argument_of l.operand)
+        has = argument_read (storage_of j) p c l.operand (seeks_it ∙ f) (look.operand clear c (ccw_seen j l look (clear_stands j p clear)))
 
         to : (o : Option (List ℕ)) → HasArgument (storage_of j) p.address o → option_map cylinder_of o ≡ Some n → SeeksCylinder j p n
         to None h d = absurd cc
         to (Some x) h d = let is : cylinder_of x ≡ n = cc in (x, inl (seeks_it ∙ f, h), is)
 
-        from : SeeksCylinder j p n → option_map cylinder_of (argument_of l.read) ≡ Some n
-        from (x, inl s, at) = ap (option_map cylinder_of) (argument_unique (storage_of j) p.address (argument_of l.read) (Some x) has s.1) ∙ ap Some at
+        from : SeeksCylinder j p n → option_map cylinder_of (argument_of l.operand) ≡ Some n
+        from (x, inl s, at) = ap (option_map cylinder_of) (argument_unique (storage_of j) p.address (argument_of l.operand) (Some x) has s.1) ∙ ap Some at
         from (x, inr s, at) = absurd (both_ways _ (homes_it ∙ g) s.0)
 
 pub is_other : (k : MaskClass) → (k ≡ Seek → ⊥) → (k ≡ SeekCylinder → ⊥) → (k ≡ SeekHead → ⊥)
@@ -131,45 +132,53 @@ adds_nothing j p o areas goes e b = ((λ h. inl h), from)
 
 -- ---- the runs of a merged list
 
-above_runs : (n m : ℕ) (areas : List Area) → n ≡ m → BeginAbove m areas → RunsAbove n (map run_of areas)
+-- the run of an area, as a pair
+abbrev ends_of : Area → ℕ × ℕ
+ends_of a = pair (run_of a)
+
+pairs_of_runs : (areas : List Area) → map pair (map run_of areas) ≡ map ends_of areas
+pairs_of_runs [] = refl
+pairs_of_runs (a ∷ areas) = ap (λ rest. ends_of a ∷ rest) (pairs_of_runs areas)
+
+above_runs : (n m : ℕ) (areas : List Area) → n ≡ m → BeginAbove m areas → RunsAbove n (map ends_of areas)
 above_runs n m [] e h = tt
 above_runs n m (a ∷ areas) e h = (omega (arith, h.0), above_runs n m areas e h.1)
 
-rising_runs : (areas : List Area) → IsMerged areas → AreRising (map run_of areas)
+rising_runs : (areas : List Area) → IsMerged areas → AreRising (map ends_of areas)
 rising_runs [] m = tt
 rising_runs (a ∷ areas) m = (omega (arith, m.0), above_runs (a.start + a.len - 1 + 1) (end_of a) areas (omega (arith, m.0)) m.1, rising_runs areas m.2)
 
 -- a number is in the areas exactly where it is in their runs
 abbrev InBoth : List Area → ℕ → Type 0
-InBoth areas n = (has_cylinder (map run_of areas) n ≡ true) ↔ (lies_in areas n ≡ true)
+InBoth areas n = (has_cylinder (map ends_of areas) n ≡ true) ↔ (lies_in areas n ≡ true)
 
 in_runs : (areas : List Area) (n : ℕ) → IsMerged areas → InBoth areas n
 unfolding has_cylinder
 in_runs [] n m = ((λ h. absurd cc), λ h. absurd (both_ways _ (lies_in-nil n) h))
 in_runs (a ∷ areas) n m = (to (in_runs areas n m.2), from (in_runs areas n m.2))
   where
-    to : InBoth areas n → has_cylinder (map run_of (a ∷ areas)) n ≡ true → lies_in (a ∷ areas) n ≡ true
+    to : InBoth areas n → has_cylinder (map ends_of (a ∷ areas)) n ≡ true → lies_in (a ∷ areas) n ≡ true
     to rest h = go (or_cases _ _ h)
       where
-        go : ((nat_le a.start n && nat_le n (a.start + a.len - 1)) ≡ true) ⊎ (has_cylinder (map run_of areas) n ≡ true) → lies_in (a ∷ areas) n ≡ true
+        go : ((nat_le a.start n && nat_le n (a.start + a.len - 1)) ≡ true) ⊎ (has_cylinder (map ends_of areas) n ≡ true) → lies_in (a ∷ areas) n ≡ true
         go (inl i) = let b = and_parts _ _ i in let f = leb-true _ _ b.0 in let g = leb-true _ _ b.1 in lies_in-first a areas n (f, omega (arith, m.0))
         go (inr r) = lies_in-rest a areas n (rest.0 r)
 
-    from : InBoth areas n → lies_in (a ∷ areas) n ≡ true → has_cylinder (map run_of (a ∷ areas)) n ≡ true
+    from : InBoth areas n → lies_in (a ∷ areas) n ≡ true → has_cylinder (map ends_of (a ∷ areas)) n ≡ true
     from rest h = go (lies_in-cases a areas n h)
       where
-        go : IsByteOf a n ⊎ (lies_in areas n ≡ true) → has_cylinder (map run_of (a ∷ areas)) n ≡ true
+        go : IsByteOf a n ⊎ (lies_in areas n ≡ true) → has_cylinder (map ends_of (a ∷ areas)) n ≡ true
         go (inl i) = or_left _ _ (and_from _ _ (le-leb _ _ i.0) (le-leb _ _ (omega (arith, i.1))))
         go (inr r) = or_right _ _ (rest.1 r)
 
 pub runs_of : (P Q : ℕ → Type 0) (areas : List Area) (runs : List (ℕ × ℕ))
-    → ((n : ℕ) → P n ↔ Q n) → AreExactly P areas → runs ≡ map run_of areas → AreRunsOf Q runs
-runs_of P Q areas runs f h e = subst (AreRunsOf Q) (sym e) (record {
+    → ((n : ℕ) → P n ↔ Q n) → AreExactly P areas → runs ≡ map pair (map run_of areas) → AreRunsOf Q runs
+runs_of P Q areas runs f h e = subst (AreRunsOf Q) (sym (e ∙ pairs_of_runs areas)) (record {
   rising = rising_runs areas h.merged;
   cylinders = λ n. let r = in_runs areas n h.merged in let b = h.bytes n in ((λ t. (f n).0 (b.0 (r.0 t))), λ q. r.1 (b.1 ((f n).1 q)));
 })
 
-pub runs_next : (areas : List Area) (i : ℕ) (d : Area) (old new : List (ℕ × ℕ)) → i < length areas
+pub runs_next : (areas : List Area) (i : ℕ) (d : Area) (old new : List Extent) → i < length areas
     → old ≡ map run_of (take i areas) → new ≡ old ++ run_of (get_or areas i d) ∷ [] → new ≡ map run_of (take (i + 1) areas)
 runs_next areas i d old new l e f = grind (arith, common_steps, take-suc, map-append)
 

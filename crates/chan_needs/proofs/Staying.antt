@@ -1,38 +1,37 @@
 -- What was found of a program over one storage is true over each other that is the same in the kept
 -- bytes.
-use Rattle.chan_needs.proofs.Names.{begins_seek, byte, ccw_of}
-use Rattle.chan_needs.proofs.Names.{data_under_yes, false, Fields, HasArgument, inl, inr, is_at_least}
-use Rattle.chan_needs.proofs.Names.{IsReachable, IsVerdict, Job, length, lies_in, List, open_job}
-use Rattle.chan_needs.proofs.Names.{Option, Place, refl, Remembered, same_under_yes}
-use Rattle.chan_needs.proofs.Names.{Some, storage_of, subst, sym, true, Yes, yes_clear, ℕ, ◌↔◌, ◌∙◌}
-use Rattle.chan_needs.proofs.Names.{HoldsAreas, IsSameIn, ◌≡◌}
-use Rattle.chan_needs.proofs.Names.{Area, arith, bytes_held, drop, ◌+◌, ◌<◌, ◌∷◌, []}
+use Rattle.chan_needs.proofs.Names.{begins_seek, byte, ccw_of, data_under_yes, false, Fields}
+use Rattle.chan_needs.proofs.Names.{HasArgument, inl, inr, is_at_least, IsReachable, IsVerdict, Job}
+use Rattle.chan_needs.proofs.Names.{length, lies_in, List, open_job, Option, Place, refl}
+use Rattle.chan_needs.proofs.Names.{Remembered, same_under_yes, Some, storage_of, subst, sym, true}
+use Rattle.chan_needs.proofs.Names.{Yes, yes_clear, ℕ, ◌↔◌, ◌∙◌, HoldsAreas, IsSameIn, ◌≡◌, Area}
+use Rattle.chan_needs.proofs.Names.{arith, bytes_held, drop, ◌+◌, ◌<◌, ◌∷◌, []}
 use Rattle.chan_areas.proofs.Merging.{lies_in-first, lies_in-rest}
-use Rattle.chan_walk.specs.Counted.{with_storage}
+use Rattle.chan_walk.specs.VerdictBytes.{with_storage}
 use Rattle.chan_walk.specs.Job.{fetch_of, store_of}
 use Rattle.ccw_core.specs.Storage.{Stands}
 use Rattle.ckd_core.specs.Mask.{inhibits}
 use Rattle.chan_walk.specs.Fault.{begins_recalibrate, begins_set_mask, fetches}
 use Rattle.chan_walk.specs.Seeks.{SeeksTo}
-use Rattle.chan_walk.proofs.Algorithms.Counted.{argument_to, ccw_same, mask_byte_same}
+use Rattle.chan_walk.proofs.Algorithms.VerdictBytes.{argument_to, ccw_same, mask_byte_same}
 use Rattle.chan_walk.proofs.Theory.Chains.{argument_exists, argument_unique}
 use Rattle.chan_walk.proofs.Theory.Checks.{check_stands}
 use Rattle.chan_walk.proofs.Theory.Faults.{clear_check}
 use Rattle.chan_walk.proofs.Theory.Transport.{same_data, same_reached}
 use Rattle.chan_needs.specs.Needs.{begins, IsNeededCylinder, IsNeededForFetching, KeepsProgram}
-use Rattle.chan_needs.specs.Needs.{Serves, ServesAt}
+use Rattle.chan_needs.specs.Needs.{MaskServes, MaskServesAt}
 use Rattle.ccw_core.specs.declared.storage.Storage.{Storage}
 use Rattle.chan_areas.specs.Merged.{IsLeastOf}
 use Rattle.chan_needs.specs.declared.start.Start.TheVariants as answer
 use Rattle.chan_needs.specs.declared.start.StartRefusal.{StartRefusal}
 use Rattle.chan_needs.specs.declared.start.StartRefusal.TheVariants as why
 use Rattle.chan_needs.specs.Remembered.{HoldsByte, HoldsKept, IsFirstChanged, IsFirstChangedIn}
-use Rattle.chan_needs.specs.Start.{GrantsListed, HasChanged, IsLent, IsNotGranted, IsOfAnother, IsOfProgram}
-use Rattle.chan_needs.specs.Start.{IsStartRefusal, LacksByte}
-use Rattle.chan_needs.specs.Rows.{Listed, rows_of}
+use Rattle.chan_needs.specs.Start.{GrantsListed, HasChanged, IsLent, IsNotGranted, IsOfAnother}
+use Rattle.chan_needs.specs.Start.{IsOfProgram, IsStartRefusal, LacksByte}
+use Rattle.chan_needs.specs.Listed.{Listed, listed_in}
 use Rattle.chan_needs.specs.Staying.{AnswerStays, HeldStaysTrue, NeedsStay}
 use Rattle.chan_needs.proofs.Masking.{strictest_same}
-use Rattle.chan_needs.proofs.Remembering.{carry, counted, open_there, rows_stay, same_device}
+use Rattle.chan_needs.proofs.Remembering.{carry, counted, open_there, lists_stay, same_device}
 use Rattle.chan_needs.proofs.Remembering.{same_held, there, yes_open, yes_there}
 
 module _ (j k : Job) (keeps : KeepsProgram j k) (v : IsVerdict (open_job j) Yes) where
@@ -66,13 +65,13 @@ module _ (j k : Job) (keeps : KeepsProgram j k) (v : IsVerdict (open_job j) Yes)
         subst (λ (c : Fields). byte (storage_of j) (ccw_of j p).address ≡ byte (storage_of k) c.address) same
         (mask_byte_same (open_job j) k.storage (counted j k keeps v) p r b)
 
-    serves_to : (m : ℕ) → ServesAt j p m → ServesAt k p m
+    serves_to : (m : ℕ) → MaskServesAt j p m → MaskServesAt k p m
     serves_to m h = record {
       permits = subst (λ (c : Fields). begins p c ≡ true → inhibits m c.command ≡ false) same h.permits;
       admits = λ b. let c = subst (λ (c : Fields). begins_set_mask p c ≡ true) (sym same) b in subst (λ x. is_at_least x m ≡ true) (admits_same c) (h.admits c);
     }
 
-    serves_from : (m : ℕ) → ServesAt k p m → ServesAt j p m
+    serves_from : (m : ℕ) → MaskServesAt k p m → MaskServesAt j p m
     serves_from m h = record {
       permits = subst (λ (c : Fields). begins p c ≡ true → inhibits m c.command ≡ false) (sym same) h.permits;
       admits = λ b. let c = subst (λ (c : Fields). begins_set_mask p c ≡ true) same b in subst (λ x. is_at_least x m ≡ true) (sym (admits_same b)) (h.admits c);
@@ -93,7 +92,7 @@ module _ (j k : Job) (keeps : KeepsProgram j k) (v : IsVerdict (open_job j) Yes)
         let e : y.0 ≡ Some x = argument_unique (storage_of k) p.address y.0 (Some x) (argument_there y.0 b y.1) h.1 in
         inl (b, subst (λ (o : Option (List ℕ)). HasArgument (storage_of j) p.address o) e y.1)
 
-  serves_same : (m : ℕ) → Serves j m ↔ Serves k m
+  serves_same : (m : ℕ) → MaskServes j m ↔ MaskServes k m
   serves_same m = (
     (λ f p r. let q = (reached_same p).1 r in serves_to p q m (f p q)),
     λ f p r. serves_from p r m (f p ((reached_same p).0 r)),
@@ -116,15 +115,15 @@ module _ (j k : Job) (keeps : KeepsProgram j k) (v : IsVerdict (open_job j) Yes)
 pub needs_stay : NeedsStay
 needs_stay j k n keeps h =
     let v = h.verdict in
-    let rows = rows_stay j k keeps v n (record { store = h.store; keep = h.keep }) in
+    let lists = lists_stay j k keeps v n (record { store = h.store; keep = h.keep }) in
     record {
       verdict = yes_open j k keeps v;
       storage_len = h.storage_len ∙ sym keeps.storage.same_length;
-      mask = strictest_same (Serves j) (Serves k) n.mask (serves_same j k keeps v) h.mask;
+      mask = strictest_same (MaskServes j) (MaskServes k) n.mask (serves_same j k keeps v) h.mask;
       extents = record { rising = h.extents.rising; cylinders = λ c. both j k keeps v (h.extents.cylinders c) (sought_same j k keeps v c) };
       fetch = record { merged = h.fetch.merged; bytes = λ b. both j k keeps v (h.fetch.bytes b) (fetched_same j k keeps v b) };
-      store = rows.store;
-      keep = rows.keep;
+      store = lists.store;
+      keep = lists.keep;
     }
 
 -- a job's storage that holds what is remembered is the same in the kept bytes
@@ -133,12 +132,12 @@ held_stays_true j k p h start device len held =
     let keeps : KeepsProgram j k = record {
       storage = record {
         same_length = len;
-        same = λ b kept. same_held (storage_of j) (storage_of k) p.rows.keep.now p.kept.now b h.kept held ((h.needs.keep.bytes b).1 kept);
+        same = λ b kept. same_held (storage_of j) (storage_of k) p.needs.keep.now p.kept.now b h.kept held ((h.needs.keep.bytes b).1 kept);
       };
       start = h.start ∙ sym start;
       device = same_device j.device k.device (h.device ∙ sym device);
     } in
-    record { needs = needs_stay j k (rows_of p.rows) keeps h.needs; start = start; device = device; kept = held }
+    record { needs = needs_stay j k (listed_in p.needs) keeps h.needs; start = start; device = device; kept = held }
 
 -- ---- between a question and the start
 
@@ -178,7 +177,7 @@ module _ (s u : List ℕ) (len : length u ≡ length s) where
     changed_over areas (drop a.len kept) b (λ b m. same b (lies_in-rest a areas b m)) c.1,
   )
 
-module _ (j : Job) (t : Storage) (p : Remembered) (same : IsSameIn (λ b. lies_in p.rows.keep.now b ≡ true) (storage_of j) (bytes_held t)) where
+module _ (j : Job) (t : Storage) (p : Remembered) (same : IsSameIn (λ b. lies_in p.needs.keep.now b ≡ true) (storage_of j) (bytes_held t)) where
   abbrev over : Job
   over = with_storage j t
 
@@ -186,7 +185,7 @@ module _ (j : Job) (t : Storage) (p : Remembered) (same : IsSameIn (λ b. lies_i
   len = same.same_length
 
   held_over : HoldsKept j p → HoldsKept over p
-  held_over h = holds_over (storage_of j) (bytes_held t) len p.rows.keep.now p.kept.now same.same h
+  held_over h = holds_over (storage_of j) (bytes_held t) len p.needs.keep.now p.kept.now same.same h
 
   of_program : IsOfProgram j p → IsOfProgram over p
   of_program h = record { start = h.start; device = h.device; storage_len = len ∙ h.storage_len }
@@ -217,10 +216,10 @@ module _ (j : Job) (t : Storage) (p : Remembered) (same : IsSameIn (λ b. lies_i
   another (why.Cylinder c) h = absurd h
   another (why.Fetch b) h = absurd h
   another (why.Store b) h = absurd h
-  another (why.Beside i c) h = absurd h
+  another (why.Conflict i c) h = absurd h
 
   changed : (r : StartRefusal) → HasChanged j p r → HasChanged over p r
-  changed (why.Changed b) h = changed_over (storage_of j) (bytes_held t) len p.rows.keep.now p.kept.now b same.same h
+  changed (why.Changed b) h = changed_over (storage_of j) (bytes_held t) len p.needs.keep.now p.kept.now b same.same h
   changed why.OtherStart h = absurd h
   changed why.OtherDevice h = absurd h
   changed why.OtherLength h = absurd h
@@ -228,7 +227,7 @@ module _ (j : Job) (t : Storage) (p : Remembered) (same : IsSameIn (λ b. lies_i
   changed (why.Cylinder c) h = absurd h
   changed (why.Fetch b) h = absurd h
   changed (why.Store b) h = absurd h
-  changed (why.Beside i c) h = absurd h
+  changed (why.Conflict i c) h = absurd h
 
   not_granted : (n : Listed) (r : StartRefusal) → IsNotGranted j n r → IsNotGranted over n r
   not_granted n why.Mask h = h
@@ -239,19 +238,19 @@ module _ (j : Job) (t : Storage) (p : Remembered) (same : IsSameIn (λ b. lies_i
   not_granted n why.OtherDevice h = absurd h
   not_granted n why.OtherLength h = absurd h
   not_granted n (why.Changed b) h = absurd h
-  not_granted n (why.Beside i c) h = absurd h
+  not_granted n (why.Conflict i c) h = absurd h
 
   refusal_over : (fs : List Remembered) (r : StartRefusal) → IsStartRefusal j p fs r → IsStartRefusal over p fs r
   refusal_over fs r (inl h) = inl (another r h)
   refusal_over fs r (inr (inl h)) = inr (inl (of_program h.0, changed r h.1))
-  refusal_over fs r (inr (inr (inl h))) = inr (inr (inl (of_program h.0, held_over h.1, not_granted (rows_of p.rows) r h.2)))
-  refusal_over fs r (inr (inr (inr h))) = inr (inr (inr (of_program h.0, held_over h.1, granted (rows_of p.rows) h.2, h.3)))
+  refusal_over fs r (inr (inr (inl h))) = inr (inr (inl (of_program h.0, held_over h.1, not_granted (listed_in p.needs) r h.2)))
+  refusal_over fs r (inr (inr (inr h))) = inr (inr (inr (of_program h.0, held_over h.1, granted (listed_in p.needs) h.2, h.3)))
 
 pub answer_stays : AnswerStays
 answer_stays j t p fs answer.Yes same h = record {
   program = of_program j t p same h.program;
   kept = held_over j t p same h.kept;
-  granted = granted j t p same (rows_of p.rows) h.granted;
-  beside = h.beside;
+  granted = granted j t p same (listed_in p.needs) h.granted;
+  compatible = h.compatible;
 }
 answer_stays j t p fs (answer.No r) same h = refusal_over j t p same fs r h

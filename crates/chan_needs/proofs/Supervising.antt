@@ -1,10 +1,12 @@
 -- A supervisor that keeps to the answers of its calls makes a history.
-use Rattle.chan_needs.proofs.Names.{Acts, ap, ComesNext, Flight, inl, inr, IsHistory, IsSome, List}
-use Rattle.chan_needs.proofs.Names.{map, MayStart, None, Option, refl, Remembered, Rests, Situation}
-use Rattle.chan_needs.proofs.Names.{Some, Spares, subst, sym, ℕ, [], ◌∙◌, ◌∷◌, ◌≡◌, ◌⊎◌}
+use Rattle.chan_needs.proofs.Names.{ProgramActs, ap, IsNextSituation, Flight, inl, inr, IsHistory}
+use Rattle.chan_needs.proofs.Names.{IsSome, List, map, MayStart, None, Option, refl, Remembered}
+use Rattle.chan_needs.proofs.Names.{ProgramWaits, Situation, Some, Spares, subst, sym, ℕ, [], ◌∙◌}
+use Rattle.chan_needs.proofs.Names.{◌∷◌, ◌≡◌, ◌⊎◌}
 use Rattle.chan_needs.specs.Remembered.{AreInFlight, IsInFlight}
-use Rattle.chan_needs.specs.Supervised.{GoesOn, GoesOnAt, IsAllowed, IsSupervised, IsWriting, Lists}
-use Rattle.chan_needs.specs.Supervised.{RestsAt, StartsAt, SupervisedStaysWell, Supervision}
+use Rattle.chan_needs.specs.Supervised.{SupervisionGoesOn, ProgramGoesOnAt, IsAllowed, IsSupervised}
+use Rattle.chan_needs.specs.Supervised.{IsWriting, Lists, ProgramWaitsAt, ProgramStartsAt}
+use Rattle.chan_needs.specs.Supervised.{SupervisedStaysWell, Supervision}
 use Rattle.chan_needs.proofs.History.{stays_well}
 use Rattle.chan_needs.proofs.Remembering.{spared_by, starts_well}
 use Rattle.chan_needs.proofs.Beginning.{others}
@@ -30,15 +32,15 @@ module _ (v w : Supervision) (h : IsTrueAt v) where
   stayed : (i : ℕ) (f g : Flight) → v.situation.at i ≡ Some f → g.job ≡ f.job → w.programs i ≡ v.programs i → IsNoted w i g
   stayed i f g e same noted = let t = h i f e in (t.0, noted ∙ t.1, subst (IsInFlight t.0) (sym same) t.2)
 
-  rested : (k : ℕ) (g : Flight) (x : Option Flight) → v.situation.at k ≡ x → Rests x (Some g) → w.programs k ≡ v.programs k → IsNoted w k g
+  rested : (k : ℕ) (g : Flight) (x : Option Flight) → v.situation.at k ≡ x → ProgramWaits x (Some g) → w.programs k ≡ v.programs k → IsNoted w k g
   rested k g None e r noted = absurd r
   rested k g (Some f) e r noted = stayed k f g e r.0 noted
 
-  rested_at : (k : ℕ) (g : Flight) → w.situation.at k ≡ Some g → RestsAt v w k → IsNoted w k g
-  rested_at k g e r = rested k g (v.situation.at k) refl (subst (Rests (v.situation.at k)) e r.0) r.1
+  rested_at : (k : ℕ) (g : Flight) → w.situation.at k ≡ Some g → ProgramWaitsAt v w k → IsNoted w k g
+  rested_at k g e r = rested k g (v.situation.at k) refl (subst (ProgramWaits (v.situation.at k)) e r.0) r.1
 
   -- a start
-  module _ (i : ℕ) (s : StartsAt v w i) where
+  module _ (i : ℕ) (s : ProgramStartsAt v w i) where
     abbrev now : IsAllowed v i
     now = s.allowed
 
@@ -47,10 +49,10 @@ module _ (v w : Supervision) (h : IsTrueAt v) where
         starts_well now.flight.job now.program now.in_flight now.proper now.answer now.asked v.situation
         now.flight.moment now.remembered (listed_in_flight v now.in_flight h now.lists) now.start
 
-    starts : Acts v.situation w.situation (v.situation.at i) (w.situation.at i)
+    starts : ProgramActs v.situation w.situation (v.situation.at i) (w.situation.at i)
     starts =
-        subst (λ x. Acts v.situation w.situation x (w.situation.at i)) (sym now.free)
-        (subst (λ x. Acts v.situation w.situation None x) (sym s.there) (started.0, s.storage))
+        subst (λ x. ProgramActs v.situation w.situation x (w.situation.at i)) (sym now.free)
+        (subst (λ x. ProgramActs v.situation w.situation None x) (sym s.there) (started.0, s.storage))
 
     starts_true : (g : Flight) → w.situation.at i ≡ Some g → IsNoted w i g
     starts_true g e =
@@ -60,13 +62,13 @@ module _ (v w : Supervision) (h : IsTrueAt v) where
 
   -- a step, or the end
   acted : (i : ℕ) (g : Flight) (x : Option Flight) → v.situation.at i ≡ x → IsSome x
-      → Acts v.situation w.situation x (Some g) → w.programs i ≡ v.programs i → IsNoted w i g
+      → ProgramActs v.situation w.situation x (Some g) → w.programs i ≡ v.programs i → IsNoted w i g
   acted i g None e some acts noted = absurd cc
   acted i g (Some f) e some acts noted = stayed i f g e acts.0 noted
 
-  goes_true : (i : ℕ) (s : GoesOnAt v w i) (g : Flight) → w.situation.at i ≡ Some g → IsNoted w i g
+  goes_true : (i : ℕ) (s : ProgramGoesOnAt v w i) (g : Flight) → w.situation.at i ≡ Some g → IsNoted w i g
   goes_true i s g e =
-      acted i g (v.situation.at i) refl s.there (subst (Acts v.situation w.situation (v.situation.at i)) e s.acts) (s.noted (subst IsSome (sym e) refl))
+      acted i g (v.situation.at i) refl s.there (subst (ProgramActs v.situation w.situation (v.situation.at i)) e s.acts) (s.noted (subst IsSome (sym e) refl))
 
   -- a write
   spares : (r : IsWriting v w) (k : ℕ) (x : Option Flight) → v.situation.at k ≡ x → Spares x v.situation.storage w.situation.storage
@@ -76,27 +78,28 @@ module _ (v w : Supervision) (h : IsTrueAt v) where
 
   -- the program under number i starts, makes a step or leaves
   module _ (i : ℕ) where
-    acts : StartsAt v w i ⊎ GoesOnAt v w i → Acts v.situation w.situation (v.situation.at i) (w.situation.at i)
+    acts : ProgramStartsAt v w i ⊎ ProgramGoesOnAt v w i → ProgramActs v.situation w.situation (v.situation.at i) (w.situation.at i)
     acts (inl s) = starts i s
     acts (inr s) = s.acts
 
-    rests : (k : ℕ) → (k ≡ i) ⊎ RestsAt v w k → (k ≡ i) ⊎ Rests (v.situation.at k) (w.situation.at k)
+    rests : (k : ℕ) → (k ≡ i) ⊎ ProgramWaitsAt v w k → (k ≡ i) ⊎ ProgramWaits (v.situation.at k) (w.situation.at k)
     rests k (inl e) = inl e
     rests k (inr r) = inr r.0
 
-    noted_at : (g : Flight) → StartsAt v w i ⊎ GoesOnAt v w i → w.situation.at i ≡ Some g → IsNoted w i g
+    noted_at : (g : Flight) → ProgramStartsAt v w i ⊎ ProgramGoesOnAt v w i → w.situation.at i ≡ Some g → IsNoted w i g
     noted_at g (inl s) e = starts_true i s g e
     noted_at g (inr s) e = goes_true i s g e
 
-    each_noted : (k : ℕ) (g : Flight) → StartsAt v w i ⊎ GoesOnAt v w i → w.situation.at k ≡ Some g → (k ≡ i) ⊎ RestsAt v w k → IsNoted w k g
+    each_noted : (k : ℕ) (g : Flight) → ProgramStartsAt v w i ⊎ ProgramGoesOnAt v w i → w.situation.at k ≡ Some g → (k ≡ i) ⊎ ProgramWaitsAt v w k
+        → IsNoted w k g
     each_noted k g s e (inl same) = subst (λ n. IsNoted w n g) (sym same) (noted_at g s (sym (ap w.situation.at same) ∙ e))
     each_noted k g s e (inr r) = rested_at k g e r
 
-  comes_next : GoesOn v w → ComesNext v.situation w.situation
+  comes_next : SupervisionGoesOn v w → IsNextSituation v.situation w.situation
   comes_next (inl (i, s, others)) = inl (i, acts i s, λ k. rests i k (others k))
   comes_next (inr r) = inr (λ k. ((r.1 k).0, spares r k (v.situation.at k) refl))
 
-  stays_true : GoesOn v w → IsTrueAt w
+  stays_true : SupervisionGoesOn v w → IsTrueAt w
   stays_true (inl (i, s, others)) k g e = each_noted i k g s e (others k)
   stays_true (inr r) k g e = rested_at k g e (r.1 k)
 

@@ -11,9 +11,9 @@ use Rattle.chan_walk.specs.Machine.{At}
 use Rattle.chan_walk.specs.OpenJob.{AreOfOneProgram, open_job}
 use Rattle.chan_needs.specs.Needs.{Grants, IsKept}
 use Rattle.chan_walk.specs.Place.{first_place}
-use Rattle.chan_needs.specs.declared.remembered.Remembered.{Remembered}
+use Rattle.chan_needs.specs.declared.layout.Remembered.{Remembered}
 use Rattle.chan_needs.specs.Remembered.{AreInFlight, IsRemembered}
-use Rattle.chan_needs.specs.Rows.{MayRunBeside}
+use Rattle.chan_needs.specs.Listed.{AreProgramsCompatible}
 use Rattle.chan_needs.specs.Start.{IsFit}
 use Rattle.chan_walk.specs.Runs.{IsSameIn, IsStart, Moment, Steps}
 use Rattle.chan_walk.specs.Verdict.{IsVerdict}
@@ -26,7 +26,7 @@ pub record IsFlightOf (j : Job) (f : Flight) : Type 0 where
 
 -- what a supervisor knows before a start: some job will do for the program of j, that of f grants
 -- what is needed, the kept bytes are as they were, arm, mask and stage are those of a start, and
--- the program is beside each in flight
+-- the program is compatible with each in flight
 pub record IsAsked (a : Situation) (j : Job) (f : Flight) : Type 0 where
   pub opened : IsVerdict (open_job j) Yes
   pub program : AreOfOneProgram j f.job
@@ -37,8 +37,9 @@ pub record IsAsked (a : Situation) (j : Job) (f : Flight) : Type 0 where
   pub mask : f.moment.mask ≡ f.job.mask
   pub stage : f.moment.stage ≡ At (first_place f.job) None
   pub events : f.moment.events ≡ []
-  pub beside :
-      (i : ℕ) (g : Flight) → a.at i ≡ Some g → (k : Job) × IsFlightOf k g × MayRunBeside j k
+  pub compatible :
+      (i : ℕ) (g : Flight) → a.at i ≡ Some g → (k : Job) × IsFlightOf k g
+      × AreProgramsCompatible j k
 
 -- the program may start
 abbrev pub AskedMayStart : Type 0

@@ -1,7 +1,7 @@
 pub mod History
-pub mod Beside
+pub mod SideBySide
 pub mod Needs
-pub mod Rows
+pub mod Listed
 pub mod LeastBytes
 pub mod Asked
 pub mod Remembered

@@ -53,15 +53,15 @@ begins p c = is_fresh p.entered && not (is_transfer c)
 
 -- a place asks no more of the mask: the mask doesn't inhibit the command that begins there, and the
 -- byte that Set File Mask takes there is at least as strict
-pub record ServesAt (j : Job) (p : Place) (mask : ℕ) : Type 0 where
+pub record MaskServesAt (j : Job) (p : Place) (mask : ℕ) : Type 0 where
   pub permits : begins p (ccw_of j p) ≡ true → inhibits mask (ccw_of j p).command ≡ false
   pub admits :
       begins_set_mask p (ccw_of j p) ≡ true
       → is_at_least (byte (storage_of j) (ccw_of j p).address) mask ≡ true
 
 -- nor does any place that is openly reachable
-abbrev pub Serves : Job → ℕ → Type 0
-Serves j mask = (p : Place) → IsOpenlyReachable j p → ServesAt j p mask
+abbrev pub MaskServes : Job → ℕ → Type 0
+MaskServes j mask = (p : Place) → IsOpenlyReachable j p → MaskServesAt j p mask
 
 -- the strictest of the masks for which P holds
 pub record IsStrictest (P : ℕ → Type 0) (mask : ℕ) : Type 0 where
@@ -72,7 +72,7 @@ pub record IsStrictest (P : ℕ → Type 0) (mask : ℕ) : Type 0 where
 
 -- the strictest of the masks that serve
 abbrev pub IsNeededMask : Job → ℕ → Type 0
-IsNeededMask j = IsStrictest (Serves j)
+IsNeededMask j = IsStrictest (MaskServes j)
 
 -- the byte at b may not change while the program runs, under any job
 abbrev pub IsKept : Job → ℕ → Type 0
@@ -80,7 +80,7 @@ IsKept j b = IsGuarded (open_job j) b
 
 -- k grants what the program of j needs
 pub record Grants (j k : Job) : Type 0 where
-  pub mask : Serves j k.mask
+  pub mask : MaskServes j k.mask
   pub extents : (n : ℕ) → IsNeededCylinder j n → has_cylinder (extents_of k) n ≡ true
   pub fetch : (b : ℕ) → IsNeededForFetching j b → lies_in (fetch_of k) b ≡ true
   pub store : (b : ℕ) → IsNeededForStoring j b → lies_in (store_of k) b ≡ true
@@ -109,7 +109,7 @@ AskedOnce =
 abbrev pub NeededMaskIsEnough : Type 0
 NeededMaskIsEnough =
     (j : Job) (mask other : ℕ) → IsNeededMask j mask
-    → Serves j other ↔ (is_at_least mask other ≡ true)
+    → MaskServes j other ↔ (is_at_least mask other ≡ true)
 
 -- there is no other needed mask
 abbrev pub NeededMaskIsOne : Type 0

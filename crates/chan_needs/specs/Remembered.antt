@@ -9,14 +9,14 @@ use Rattle.ccw_core.specs.Ccw.{byte}
 use Rattle.ckd_core.specs.declared.device.Device.{Device}
 use Rattle.ckd_core.specs.declared.device.Device.TheVariants.{D2311, D2314}
 use Rattle.chan_walk.specs.declared.job.Job.{Job}
-use Rattle.chan_needs.specs.declared.remembered.Remembered.{Remembered}
+use Rattle.chan_needs.specs.declared.layout.Remembered.{Remembered}
 use Rattle.chan_walk.specs.declared.verdict.Verdict.TheVariants.{Yes}
 use Rattle.chan_walk.specs.Alarm.{IsProper}
 use Rattle.chan_areas.specs.Merged.{IsLeastOf, IsByteOf}
 use Rattle.chan_needs.specs.History.{Flight, GoesOnTo, IsHistory, Situation}
 use Rattle.chan_walk.specs.Job.{storage_of}
 use Rattle.chan_needs.specs.Needs.{KeepsProgram}
-use Rattle.chan_needs.specs.Rows.{AreNeeds, rows_of, IsKeptIn}
+use Rattle.chan_needs.specs.Listed.{AreNeeds, listed_in, IsKeptIn}
 use Rattle.chan_walk.specs.Runs.{IsSameIn}
 use Rattle.chan_walk.specs.Verdict.{IsVerdict}
 
@@ -62,7 +62,7 @@ bytes_in s (a ∷ areas) = take a.len (drop a.start s) ++ bytes_in s areas
 
 -- storage holds what was kept
 abbrev pub HoldsKept : Job → Remembered → Type 0
-HoldsKept j p = HoldsAreas (storage_of j) p.rows.keep.now p.kept.now
+HoldsKept j p = HoldsAreas (storage_of j) p.needs.keep.now p.kept.now
 
 -- how many bytes the areas have together
 abbrev pub total_len : List Area → ℕ
@@ -79,7 +79,7 @@ device_number D2314 = 2314
 -- this is remembered of the program of j: some job will do for it, and these are its needs and the
 -- bytes that it keeps
 pub record IsRemembered (j : Job) (p : Remembered) : Type 0 where
-  pub needs : AreNeeds j (rows_of p.rows)
+  pub needs : AreNeeds j (listed_in p.needs)
   pub start : j.start ≡ p.start
   pub device : device_number j.device ≡ p.device
   pub kept : HoldsKept j p
@@ -88,7 +88,7 @@ pub record IsRemembered (j : Job) (p : Remembered) : Type 0 where
 -- that aren't kept may differ
 pub record IsInFlight (p : Remembered) (k : Job) : Type 0 where
   pub asked : Job
-  pub needs : AreNeeds asked (rows_of p.rows)
+  pub needs : AreNeeds asked (listed_in p.needs)
   pub program : KeepsProgram asked k
   pub proper : IsProper k
   pub verdict : IsVerdict k Yes
@@ -107,14 +107,14 @@ AreInFlight a fs =
 
 -- the program keeps no byte of the area
 abbrev pub KeepsNone : Area → Remembered → Type 0
-KeepsNone a f = (b : ℕ) → IsKeptIn (rows_of f.rows) a b → ⊥
+KeepsNone a f = (b : ℕ) → IsKeptIn (listed_in f.needs) a b → ⊥
 
 -- no program keeps a byte of the area, or this is the first that does, and the least such byte
 abbrev pub IsKeeperOf : List Remembered → Area → Option (ℕ × ℕ) → Type 0
 IsKeeperOf fs a None = All (KeepsNone a) fs
 IsKeeperOf fs a (Some (i, b)) =
     (f : Remembered) × IsInFlightAt fs i f
-    × AllWithin (KeepsNone a) fs 0 i × IsLeastOf (IsKeptIn (rows_of f.rows) a) b
+    × AllWithin (KeepsNone a) fs 0 i × IsLeastOf (IsKeptIn (listed_in f.needs) a) b
 
 -- storage becomes t, in bytes of the area alone
 abbrev pub IsWritten : Area → List ℕ → List ℕ → Type 0

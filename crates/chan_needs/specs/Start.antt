@@ -6,7 +6,7 @@ use Rattle.ccw_core.specs.Areas.{lies_in}
 use Rattle.ckd_core.specs.Extents.{has_cylinder}
 use Rattle.ckd_core.specs.Mask.{is_at_least}
 use Rattle.chan_walk.specs.declared.job.Job.{Job}
-use Rattle.chan_needs.specs.declared.remembered.Remembered.{Remembered}
+use Rattle.chan_needs.specs.declared.layout.Remembered.{Remembered}
 use Rattle.chan_needs.specs.declared.start.StartRefusal.{StartRefusal}
 use Rattle.chan_needs.specs.declared.start.StartRefusal.TheVariants as why
 use Rattle.chan_needs.specs.declared.start.Start.{Start}
@@ -15,11 +15,11 @@ use Rattle.chan_areas.specs.Merged.{IsLeastOf}
 use Rattle.chan_needs.specs.History.{MayStart, Situation}
 use Rattle.chan_walk.specs.Job.{storage_of, extents_of, fetch_of, store_of}
 use Rattle.chan_needs.specs.Needs.{Grants, KeepsProgram}
-use Rattle.chan_needs.specs.Rows.{AreNeeds, HasStoreAndKeep, Listed, MayRunBeside, rows_of}
+use Rattle.chan_needs.specs.Listed.{AreNeeds, HasStoreAndKeep, Listed, AreProgramsCompatible}
+use Rattle.chan_needs.specs.Listed.{listed_in, AreNeedsCompatible, IsConflict}
 use Rattle.chan_walk.specs.Runs.{IsStart, Moment}
 use Rattle.chan_needs.specs.Remembered.{IsFirstChanged, HoldsKept, IsInFlightAt, IsRemembered}
 use Rattle.chan_needs.specs.Remembered.{IsInFlight, AreInFlight, device_number}
-use Rattle.chan_needs.specs.Rows.{AreBeside, IsConflict}
 
 -- ---- the four conditions of a start
 
@@ -27,13 +27,13 @@ use Rattle.chan_needs.specs.Rows.{AreBeside, IsConflict}
 pub record IsOfProgram (j : Job) (p : Remembered) : Type 0 where
   pub start : j.start ≡ p.start
   pub device : device_number j.device ≡ p.device
-  pub storage_len : length (storage_of j) ≡ p.rows.storage_len
+  pub storage_len : length (storage_of j) ≡ p.needs.storage_len
 
 -- the byte at b is one of storage, and lies in an area lent
 abbrev pub IsLent : Job → List Area → ℕ → Type 0
 IsLent j lent b = (b < length (storage_of j)) × (lies_in lent b ≡ true)
 
--- the job grants what the rows list
+-- the job grants what is listed
 pub record GrantsListed (j : Job) (n : Listed) : Type 0 where
   pub mask : is_at_least n.mask j.mask ≡ true
   pub extents :
@@ -41,34 +41,34 @@ pub record GrantsListed (j : Job) (n : Listed) : Type 0 where
   pub fetch : (b : ℕ) → lies_in n.fetch b ≡ true → IsLent j (fetch_of j) b
   pub store : (b : ℕ) → lies_in n.store b ≡ true → IsLent j (store_of j) b
 
--- the same for two programs that are remembered
-abbrev pub IsBeside : Remembered → Remembered → Type 0
-IsBeside p f = AreBeside (rows_of p.rows) (rows_of f.rows)
+-- two programs that are remembered are compatible
+abbrev pub IsCompatibleWith : Remembered → Remembered → Type 0
+IsCompatibleWith p f = AreNeedsCompatible (listed_in p.needs) (listed_in f.needs)
 
--- no refusal is in vain: if rows list the needs of a program, a job whose storage is as long grants
--- the rows exactly if it grants the needs, and two programs are beside each other by their rows
--- exactly if they are
-pub record RowsAreExact : Type 0 where
+-- no refusal is in vain: if the needs of a program are listed, a job whose storage is as long
+-- grants what is listed exactly if it grants the needs, and two programs are compatible by
+-- their lists exactly if they are
+pub record ListedIsExact : Type 0 where
   pub grants :
       (j k : Job) (n : Listed) → AreNeeds j n → length (storage_of k) ≡ n.storage_len
       → GrantsListed k n ↔ Grants j k
-  pub beside :
+  pub compatible :
       (j k : Job) (n m : Listed) → HasStoreAndKeep j n → HasStoreAndKeep k m
-      → AreBeside n m ↔ MayRunBeside j k
+      → AreNeedsCompatible n m ↔ AreProgramsCompatible j k
 
 -- all four
 pub record IsFit (j : Job) (p : Remembered) (fs : List Remembered) : Type 0 where
   pub program : IsOfProgram j p
   pub kept : HoldsKept j p
-  pub granted : GrantsListed j (rows_of p.rows)
-  pub beside : All (IsBeside p) fs
+  pub granted : GrantsListed j (listed_in p.needs)
+  pub compatible : All (IsCompatibleWith p) fs
 
 -- a job that grants what the program needs, over storage that holds what was kept, fits what is
--- remembered, if the program is beside each in flight
+-- remembered, if the program is compatible with each in flight
 abbrev pub RememberedIsFit : Type 0
 RememberedIsFit =
     (j k : Job) (p : Remembered) (fs : List Remembered) → IsRemembered j p → KeepsProgram j k
-    → HoldsKept k p → Grants j k → All (IsBeside p) fs → IsFit k p fs
+    → HoldsKept k p → Grants j k → All (IsCompatibleWith p) fs → IsFit k p fs
 
 -- ---- what is wrong if one of them fails
 
@@ -78,12 +78,12 @@ IsOfAnother j p why.OtherStart = j.start ≢ p.start
 IsOfAnother j p why.OtherDevice = (j.start ≡ p.start) × (device_number j.device ≢ p.device)
 IsOfAnother j p why.OtherLength =
     (j.start ≡ p.start) × (device_number j.device ≡ p.device)
-    × (length (storage_of j) ≢ p.rows.storage_len)
+    × (length (storage_of j) ≢ p.needs.storage_len)
 IsOfAnother j p _ = ⊥
 
 -- with the kept bytes
 abbrev pub HasChanged : Job → Remembered → StartRefusal → Type 0
-HasChanged j p (why.Changed b) = IsFirstChanged (storage_of j) p.rows.keep.now p.kept.now b
+HasChanged j p (why.Changed b) = IsFirstChanged (storage_of j) p.needs.keep.now p.kept.now b
 HasChanged j p _ = ⊥
 
 -- the cylinder is listed, and lies in no extent
@@ -110,20 +110,21 @@ IsNotGranted j n (why.Store b) =
     × IsLeastOf (LacksByte j n.store (store_of j)) b
 IsNotGranted j n _ = ⊥
 
--- with the programs in flight: the first that it isn't beside
-abbrev pub IsNotBeside : Remembered → List Remembered → StartRefusal → Type 0
-IsNotBeside p fs (why.Beside i c) =
-    (f : Remembered) × IsInFlightAt fs i f × AllWithin (IsBeside p) fs 0 i
-    × IsConflict (rows_of p.rows) (rows_of f.rows) c
-IsNotBeside p fs _ = ⊥
+-- with the programs in flight: the first with which it isn't compatible
+abbrev pub HasConflictInFlight : Remembered → List Remembered → StartRefusal → Type 0
+HasConflictInFlight p fs (why.Conflict i c) =
+    (f : Remembered) × IsInFlightAt fs i f × AllWithin (IsCompatibleWith p) fs 0 i
+    × IsConflict (listed_in p.needs) (listed_in f.needs) c
+HasConflictInFlight p fs _ = ⊥
 
 -- the first of the four that fails, and what is wrong
 abbrev pub IsStartRefusal : Job → Remembered → List Remembered → StartRefusal → Type 0
 IsStartRefusal j p fs r =
     IsOfAnother j p r
     ⊎ (IsOfProgram j p × HasChanged j p r)
-    ⊎ (IsOfProgram j p × HoldsKept j p × IsNotGranted j (rows_of p.rows) r)
-    ⊎ (IsOfProgram j p × HoldsKept j p × GrantsListed j (rows_of p.rows) × IsNotBeside p fs r)
+    ⊎ (IsOfProgram j p × HoldsKept j p × IsNotGranted j (listed_in p.needs) r)
+    ⊎ (IsOfProgram j p × HoldsKept j p × GrantsListed j (listed_in p.needs)
+    × HasConflictInFlight p fs r)
 
 -- the answer
 abbrev pub IsAnswerOf : Job → Remembered → List Remembered → Start → Type 0

@@ -5,15 +5,15 @@ use Rattle.ccw_core.specs.Areas.{lies_in}
 use Rattle.ccw_core.specs.Held.{bytes_held}
 use Rattle.ccw_core.specs.declared.storage.Storage.{Storage}
 use Rattle.chan_walk.specs.declared.job.Job.{Job}
-use Rattle.chan_walk.specs.Counted.{with_storage}
+use Rattle.chan_walk.specs.VerdictBytes.{with_storage}
 use Rattle.chan_walk.specs.Job.{storage_of}
 use Rattle.chan_walk.specs.Runs.{IsSameIn}
 use Rattle.chan_needs.specs.declared.start.Start.{Start}
 use Rattle.chan_needs.specs.Start.{IsAnswerOf}
-use Rattle.chan_needs.specs.declared.remembered.Remembered.{Remembered}
+use Rattle.chan_needs.specs.declared.layout.Remembered.{Remembered}
 use Rattle.chan_needs.specs.Needs.{KeepsProgram}
 use Rattle.chan_needs.specs.Remembered.{HoldsKept, IsRemembered, device_number}
-use Rattle.chan_needs.specs.Rows.{AreNeeds, Listed}
+use Rattle.chan_needs.specs.Listed.{AreNeeds, Listed}
 
 -- needs are the same over each storage that is as long and the same in each kept byte
 abbrev pub NeedsStay : Type 0
@@ -31,5 +31,5 @@ HeldStaysTrue =
 abbrev pub AnswerStays : Type 0
 AnswerStays =
     (j : Job) (t : Storage) (p : Remembered) (fs : List Remembered) (answer : Start)
-    → IsSameIn (λ b. lies_in p.rows.keep.now b ≡ true) (storage_of j) (bytes_held t)
+    → IsSameIn (λ b. lies_in p.needs.keep.now b ≡ true) (storage_of j) (bytes_held t)
     → IsAnswerOf j p fs answer → IsAnswerOf (with_storage j t) p fs answer

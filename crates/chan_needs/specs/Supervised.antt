@@ -6,17 +6,17 @@ use Rattle.std.specs.Prelude.{◌⊎◌, false, true}
 use Rattle.std.specs.List.{AllByRecursion}
 use Rattle.ccw_core.specs.declared.areas.Area.{Area}
 use Rattle.chan_walk.specs.declared.job.Job.{Job}
-use Rattle.chan_needs.specs.declared.remembered.Remembered.{Remembered}
+use Rattle.chan_needs.specs.declared.layout.Remembered.{Remembered}
 use Rattle.chan_needs.specs.declared.start.Start.TheVariants.{Yes}
 use Rattle.ccw_core.specs.Areas.{lies_in}
 use Rattle.ccw_core.specs.Ccw.{byte}
 use Rattle.chan_areas.specs.Merged.{IsByteOf}
 use Rattle.chan_walk.specs.Alarm.{IsProper}
 use Rattle.chan_walk.specs.Argument.{Has}
-use Rattle.chan_needs.specs.History.{Acts, AreWell, Flight, Rests, Situation}
+use Rattle.chan_needs.specs.History.{ProgramActs, AreWell, Flight, ProgramWaits, Situation}
 use Rattle.chan_needs.specs.Remembered.{HoldsKept, IsKeeperOf, IsInFlightAt, KeepsNone}
 use Rattle.chan_needs.specs.Remembered.{IsRemembered, IsWritten, device_number}
-use Rattle.chan_needs.specs.Rows.{AreNeeds, rows_of}
+use Rattle.chan_needs.specs.Listed.{AreNeeds, listed_in}
 use Rattle.chan_needs.specs.Start.{IsAnswerOf}
 use Rattle.chan_walk.specs.Runs.{IsStart, Moment, Steps}
 
@@ -45,21 +45,22 @@ pub record IsAllowed (v : Supervision) (i : ℕ) : Type 0 where
   pub free : v.situation.at i ≡ None
 
 -- the program starts, and is remembered
-pub record StartsAt (v w : Supervision) (i : ℕ) : Type 0 where
+pub record ProgramStartsAt (v w : Supervision) (i : ℕ) : Type 0 where
   pub allowed : IsAllowed v i
   pub there : w.situation.at i ≡ Some allowed.flight
   pub noted : w.programs i ≡ Some allowed.program
   pub storage : w.situation.storage ≡ v.situation.storage
 
 -- the program under number i makes a step, or it leaves; only then it may be forgotten
-pub record GoesOnAt (v w : Supervision) (i : ℕ) : Type 0 where
+pub record ProgramGoesOnAt (v w : Supervision) (i : ℕ) : Type 0 where
   pub there : IsSome (v.situation.at i)
-  pub acts : Acts v.situation w.situation (v.situation.at i) (w.situation.at i)
+  pub acts : ProgramActs v.situation w.situation (v.situation.at i) (w.situation.at i)
   pub noted : IsSome (w.situation.at i) → w.programs i ≡ v.programs i
 
 -- the program under number k waits, if there is one
-abbrev pub RestsAt : Supervision → Supervision → ℕ → Type 0
-RestsAt v w k = Rests (v.situation.at k) (w.situation.at k) × (w.programs k ≡ v.programs k)
+abbrev pub ProgramWaitsAt : Supervision → Supervision → ℕ → Type 0
+ProgramWaitsAt v w k = ProgramWaits (v.situation.at k) (w.situation.at k)
+    × (w.programs k ≡ v.programs k)
 
 -- others are about to write, so that storage becomes t: only into an area of which, as `may_write`
 -- says, no program keeps a byte
@@ -72,19 +73,20 @@ pub record MayWrite (v : Supervision) (t : List ℕ) : Type 0 where
 
 -- others write, and all programs wait
 abbrev pub IsWriting : Supervision → Supervision → Type 0
-IsWriting v w = MayWrite v w.situation.storage × ((k : ℕ) → RestsAt v w k)
+IsWriting v w = MayWrite v w.situation.storage × ((k : ℕ) → ProgramWaitsAt v w k)
 
 -- one program starts, makes a step or leaves, and each other waits; or others write
-abbrev pub GoesOn : Supervision → Supervision → Type 0
-GoesOn v w =
-    ((i : ℕ) × (StartsAt v w i ⊎ GoesOnAt v w i) × ((k : ℕ) → (k ≡ i) ⊎ RestsAt v w k))
+abbrev pub SupervisionGoesOn : Supervision → Supervision → Type 0
+SupervisionGoesOn v w =
+    ((i : ℕ) × (ProgramStartsAt v w i ⊎ ProgramGoesOnAt v w i)
+    × ((k : ℕ) → (k ≡ i) ⊎ ProgramWaitsAt v w k))
     ⊎ IsWriting v w
 
 -- the newest first; at first no program is in flight
 abbrev pub IsSupervised : List Supervision → Type 0
 IsSupervised [] = ⊥
 IsSupervised (v ∷ []) = (i : ℕ) → v.situation.at i ≡ None
-IsSupervised (w ∷ v ∷ before) = IsSupervised (v ∷ before) × GoesOn v w
+IsSupervised (w ∷ v ∷ before) = IsSupervised (v ∷ before) × SupervisionGoesOn v w
 
 -- in each situation all programs in flight are well
 abbrev pub SupervisedStaysWell : Type 0
@@ -119,7 +121,7 @@ pub record CanBeSupervised : Type 0 where
   pub begins :
       (s : List ℕ) → (v : Supervision) × (v.situation.storage ≡ s) × IsSupervised (v ∷ [])
   pub remembered :
-      (j : Job) (p : Remembered) → AreNeeds j (rows_of p.rows) → j.start ≡ p.start
+      (j : Job) (p : Remembered) → AreNeeds j (listed_in p.needs) → j.start ≡ p.start
       → device_number j.device ≡ p.device → HoldsKept j p → IsRemembered j p
   pub lists :
       (programs : ℕ → Option Remembered) (fs : List Remembered)
@@ -141,8 +143,8 @@ pub record CanBeSupervised : Type 0 where
 
 -- what stands for the write in the table: it stores over the area, and keeps nothing
 pub record IsLastingWrite (area : Area) (f : Remembered) : Type 0 where
-  pub stores : (b : ℕ) → IsByteOf area b → lies_in f.rows.store.now b ≡ true
-  pub keeps : (b : ℕ) → lies_in f.rows.keep.now b ≡ false
+  pub stores : (b : ℕ) → IsByteOf area b → lies_in f.needs.store.now b ≡ true
+  pub keeps : (b : ℕ) → lies_in f.needs.keep.now b ≡ false
 
 -- no program in flight keeps a byte of the area
 abbrev pub IsSparedBy : Area → Supervision → Type 0
@@ -152,14 +154,14 @@ IsSparedBy area v =
 
 -- each start was asked about with the write in the list
 abbrev pub IsListedAt : Remembered → Supervision → Supervision → Type 0
-IsListedAt f v w = (i : ℕ) (s : StartsAt v w i) → Has s.allowed.in_flight f
+IsListedAt f v w = (i : ℕ) (s : ProgramStartsAt v w i) → Has s.allowed.in_flight f
 
 -- while the write is in the table, no program that keeps a byte of the area starts; so at each
 -- moment others may write into the area, by a table of the programs in flight and the write
 pub record LastingWrites : Type 0 where
   pub stays :
       (f : Remembered) (area : Area) (v w : Supervision) → IsLastingWrite area f
-      → IsSparedBy area v → GoesOn v w → IsListedAt f v w → IsSparedBy area w
+      → IsSparedBy area v → SupervisionGoesOn v w → IsListedAt f v w → IsSparedBy area w
   pub may_write :
       (f : Remembered) (area : Area) (v : Supervision) (fs : List Remembered) (t : List ℕ)
       → IsLastingWrite area f → IsSparedBy area v → Lists v.programs fs

@@ -1,12 +1,12 @@
 //! The laws of needs, of programs side by side, and of a supervisor: each is the contract of a
 //! function that does nothing, so that it is proved.
 
-ghost use Rattle.chan_needs.specs.Beside.{MayRunTogether, SafeSideBySide};
+ghost use Rattle.chan_needs.specs.SideBySide.{MayRunTogether, SafeSideBySide};
 ghost use Rattle.chan_needs.specs.History.{GoesOnToStorage, StaysWell};
 ghost use Rattle.chan_needs.specs.Needs.{AskedOnce, LeastJob, NeededMaskIsEnough, NeededMaskExists};
 ghost use Rattle.chan_needs.specs.Needs.{NeededMaskIsOne, NoJobWillDo, SafeIsGranted};
-ghost use Rattle.chan_needs.specs.Start.{RememberedIsFit, RowsAreExact};
-ghost use Rattle.chan_needs.specs.Rows.{BesideIsApart};
+ghost use Rattle.chan_needs.specs.Start.{RememberedIsFit, ListedIsExact};
+ghost use Rattle.chan_needs.specs.Listed.{CompatibleByJobs};
 ghost use Rattle.chan_needs.specs.Asked.{AskedMayStart, EachMayLeave, EachMayStart, EachMayStep};
 ghost use Rattle.chan_needs.specs.Asked.{FitIsAsked, HistoryBegins, OthersMayChange};
 ghost use Rattle.chan_needs.specs.Remembered.{NamedIsFirst};
@@ -15,9 +15,9 @@ ghost use Rattle.chan_needs.specs.Supervised.{CanBeSupervised, LastingWrites, Su
 ghost use Rattle.chan_needs.specs.Supervised.{SupervisedStaysWell};
 
 /// Programs may start and leave at any time on one storage, while others change bytes that no
-/// program in flight guards. If each program that starts has a yes and is apart from the programs
-/// in flight, each program in flight is safe, and what it guards is as it was when it got its
-/// verdict.
+/// program in flight guards. If each program that starts has a yes and is compatible with the
+/// programs in flight, each program in flight is safe, and what it guards is as it was when it got
+/// its verdict.
 #[tactic(auto, using(crate::proofs::History::stays_well))]
 pub(crate) fn stays_well()
     ensures { StaysWell }
@@ -25,7 +25,7 @@ pub(crate) fn stays_well()
 
 /// Two programs that run side by side are safe if both verdicts are yes and neither may store over
 /// what the other guards.
-#[tactic(auto, using(crate::proofs::Beside::safe_side_by_side))]
+#[tactic(auto, using(crate::proofs::SideBySide::safe_side_by_side))]
 pub(crate) fn safe_side_by_side()
     ensures { SafeSideBySide }
 {}
@@ -75,10 +75,10 @@ pub(crate) fn safe_is_granted()
     ensures { SafeIsGranted }
 {}
 
-/// Two programs are beside each other exactly if two of their jobs, each with a yes, are apart.
-#[tactic(auto, using(crate::proofs::Apart::beside_is_apart))]
-pub(crate) fn beside_is_apart()
-    ensures { BesideIsApart }
+/// Two programs are compatible exactly if two of their jobs, each with a yes, are.
+#[tactic(auto, using(crate::proofs::Compatible::compatible_by_jobs))]
+pub(crate) fn compatible_by_jobs()
+    ensures { CompatibleByJobs }
 {}
 
 /// A program that was asked about may start if its kept bytes are unchanged and its needs granted.
@@ -97,11 +97,11 @@ pub(crate) fn remembered_is_fit()
     ensures { RememberedIsFit }
 {}
 
-/// A job grants the rows of needs exactly if it grants the needs; so with two programs beside each
-/// other.
-#[tactic(auto, using(crate::proofs::Needed::rows_are_exact))]
-pub(crate) fn rows_are_exact()
-    ensures { RowsAreExact }
+/// A job grants the lists of needs exactly if it grants the needs; and two programs are
+/// compatible by their lists exactly if they are.
+#[tactic(auto, using(crate::proofs::Needed::listed_is_exact))]
+pub(crate) fn listed_is_exact()
+    ensures { ListedIsExact }
 {}
 
 /// A history begins over any storage.

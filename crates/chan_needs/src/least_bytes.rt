@@ -1,13 +1,13 @@
-//! The least byte or cylinder of rows that is shared, not lent, or in no extent.
+//! The least byte or cylinder of lists that is shared, not lent, or in no extent.
 
 ghost use Rattle.std.specs.Prelude.{◌≡◌, ◌<◌, ◌↔◌, ◌≤◌, true, false, map, IfOk, IsTrue};
 ghost use Rattle.ccw_core.specs.Areas.{lies_in};
 ghost use Rattle.ckd_core.specs.Extents.{has_cylinder};
 ghost use Rattle.chan_areas.specs.Merged.{IsLeastOrNone, IsByteOf, IsMerged};
 ghost use Rattle.chan_needs.specs.LeastBytes.{lesser_of};
-ghost use Rattle.chan_needs.specs.Rows.{IsShared, pair};
+ghost use Rattle.chan_needs.specs.Listed.{IsShared, pair};
 
-use crate::extent::Extent;
+use crate::layout::Extent;
 use ccw_core::Area;
 use chan_areas::{Merged, end_of};
 use ckd_core::Extents;

@@ -2,23 +2,23 @@
 //! programs side by side, start a program that was asked about, and let others write meanwhile.
 //!
 //! ```
-//! fn may_run_beside(program: &Remembered, other: &Remembered) -> bool {
-//!     program.rows.conflict(&other.rows) == None
+//! fn are_compatible(program: &Remembered, other: &Remembered) -> bool {
+//!     program.needs.conflict(&other.needs) == None
 //! }
 //! ```
 #![tactic(auto)]
 
-mod extent;
+mod conflict;
 mod laws;
+mod layout;
 mod least_bytes;
 mod needed_mask;
 mod needs;
 mod remembered;
-mod rows;
 mod start;
 
-pub use crate::extent::Extent;
+pub use crate::conflict::Conflict;
+pub use crate::layout::{Extent, NeedLists, Remembered, or_empty, pairs_of};
 pub use crate::needs::{Needs, needs_from};
-pub use crate::remembered::{Remembered, copy_kept, kept_len, may_write};
-pub use crate::rows::{Conflict, Rows, or_empty};
+pub use crate::remembered::{copy_kept, kept_len, may_write};
 pub use crate::start::{Start, StartRefusal, may_start};

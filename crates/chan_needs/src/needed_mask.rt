@@ -3,8 +3,8 @@
 ghost use Rattle.chan_walk.specs.Argument.{Has};
 ghost use Rattle.chan_walk.specs.Fault.{IsClear};
 ghost use Rattle.chan_walk.specs.Look.{IsLook, places_of_looks};
-ghost use Rattle.chan_needs.specs.Needs.{IsStrictest, ServesAt};
-ghost use Rattle.chan_needs.specs.Rows.{AreBounds, AreLooksOfYes};
+ghost use Rattle.chan_needs.specs.Needs.{IsStrictest, MaskServesAt};
+ghost use Rattle.chan_needs.specs.Listed.{AreBounds, AreLooksOfYes};
 ghost use Rattle.chan_walk.specs.declared.job.Job.{Job};
 ghost use Rattle.chan_walk.specs.declared.place.Place.{Place};
 
@@ -14,7 +14,7 @@ use ckd_core::{FileMask, Levels, MaskClass};
 /// The strictest mask that serves, from the looks at all reachable places.
 pub(crate) fn needed_mask(looks: &[Look]) -> FileMask
     ensures { (j : Job) → AreLooksOfYes j looks.now
-        → IsStrictest (λ m. (p : Place) → Has (places_of_looks looks.now) p → ServesAt j p m)
+        → IsStrictest (λ m. (p : Place) → Has (places_of_looks looks.now) p → MaskServesAt j p m)
         result }
 {
     let mut levels = Levels::permitting(MaskClass::Plain);
@@ -28,11 +28,11 @@ pub(crate) fn needed_mask(looks: &[Look]) -> FileMask
 /// the byte that Set File Mask takes there is at least as strict.
 fn demanded(look: &Look) -> Levels
     ensures { (j : Job) → IsLook j look.now → IsClear j look.now.place
-        → AreBounds (ServesAt j look.now.place) result.writes result.seeks }
+        → AreBounds (MaskServesAt j look.now.place) result.writes result.seeks }
 {
     match look.command() {
         Some(command) => match command.class() {
-            MaskClass::SetMask => Levels::of(look.read().byte()),
+            MaskClass::SetMask => Levels::of(look.operand().byte()),
             class => Levels::permitting(class),
         },
         None => Levels::permitting(MaskClass::Plain),

@@ -9,17 +9,16 @@ ghost use Rattle.chan_walk.specs.Look.{IsLook};
 ghost use Rattle.chan_walk.specs.Offence.{first_verdict};
 ghost use Rattle.chan_walk.specs.OpenJob.{AreOfOneProgram};
 ghost use Rattle.chan_areas.specs.Merged.{AreExactly, EndsBelow};
-ghost use Rattle.chan_needs.specs.Rows.{AreLooksOfYes, AreNeeds, IsSought};
-ghost use Rattle.chan_needs.specs.Rows.{SeeksCylinder, listed, pair, rows_of, run_of};
+ghost use Rattle.chan_needs.specs.Listed.{AreLooksOfYes, AreNeeds, IsSought};
+ghost use Rattle.chan_needs.specs.Listed.{SeeksCylinder, listed, pair, listed_in, run_of};
 ghost use Rattle.chan_walk.specs.declared.job.Job.{Job};
 ghost use Rattle.chan_walk.specs.declared.verdict.Verdict.TheVariants.{Yes};
 
-use crate::extent::Extent;
+use crate::layout::{Extent, NeedLists};
 use crate::needed_mask::needed_mask;
-use crate::rows::Rows;
 use ccw_core::Area;
 use chan_areas::Merged;
-use chan_walk::{Direction, Job, Look, Survey, data_moved, kept};
+use chan_walk::{Direction, Job, Look, Survey, data_moved, guarded_areas};
 use ckd_core::{FileMask, MaskClass};
 use std::alloc::{AllocError, Global};
 
@@ -34,7 +33,7 @@ pub struct Needs {
     /// Set File Mask may take is at least as strict.
     pub mask: FileMask,
     /// The cylinders that seeks go to: runs of first and last without a gap, rising.
-    pub extents: Vec<(u16, u16)>,
+    pub extents: Vec<Extent>,
     /// The bytes that are fetched: areas without a gap, rising.
     pub fetch: Vec<Area>,
     /// The bytes that are stored into: areas without a gap, rising.
@@ -44,24 +43,12 @@ pub struct Needs {
 }
 
 impl Needs {
-    /// The cylinders, as `rows` takes them. `AllocError` means that an allocation failed.
-    pub fn extent_rows(&self, alloc: Global) -> Result<Vec<Extent>, AllocError>
-        ensures { IfOk result (λ v. map pair v.items ≡ self.now.extents.items) }
+    /// The lists of these needs.
+    pub fn lists(&self) -> NeedLists
+        ensures { listed_in result ≡ listed self.now }
     {
-        let mut rows = Vec::new(alloc);
-        for extent in &self.extents {
-            let (first, last) = *extent;
-            rows.push(Extent { first, last })?;
-        }
-        Ok(rows)
-    }
-
-    /// These needs as a view, with the rows of `extent_rows`.
-    pub fn rows<'a>(&'a self, extents: &'a [Extent]) -> Rows<'a>
-        ensures { rows_of result ≡ record (listed self.now) { extents = map pair extents.now } }
-    {
-        Rows {
-            extents,
+        NeedLists {
+            extents: &self.extents,
             fetch: &self.fetch,
             store: &self.store,
             keep: &self.keep,
@@ -89,7 +76,7 @@ pub fn needs_from(alloc: Global, job: &Job, survey: &Survey) -> Result<Needs, Al
         extents: runs(alloc, &sought)?,
         fetch: data_moved(alloc, looks, Direction::Fetch)?.into_areas(),
         store: data_moved(alloc, looks, Direction::Store)?.into_areas(),
-        keep: kept(alloc, survey.guard())?.into_areas(),
+        keep: guarded_areas(alloc, survey.guard())?.into_areas(),
     })
 }
 
@@ -129,7 +116,7 @@ fn cylinder(look: &Look) -> Option<u16>
 {
     match look.command()?.class() {
         MaskClass::Seek | MaskClass::SeekCylinder | MaskClass::SeekHead => {
-            let argument = look.read().whole()?.bytes;
+            let argument = look.operand().whole()?.bytes;
             Some(u16::from_be_bytes([argument[2], argument[3]]))
         }
         MaskClass::Recalibrate => Some(0),
@@ -139,7 +126,7 @@ fn cylinder(look: &Look) -> Option<u16>
 
 /// The first and the last cylinder of each area of a merged list of cylinders.
 #[tactic(auto, using(crate::proofs::Seeking::runs_next))]
-fn runs(alloc: Global, cylinders: &Merged) -> Result<Vec<(u16, u16)>, AllocError>
+fn runs(alloc: Global, cylinders: &Merged) -> Result<Vec<Extent>, AllocError>
     requires { All (EndsBelow (2 ^ 16 + 1)) cylinders.now }
     ensures { IfOk result (λ v. v.items ≡ map run_of cylinders.now) }
 {
@@ -147,7 +134,10 @@ fn runs(alloc: Global, cylinders: &Merged) -> Result<Vec<(u16, u16)>, AllocError
     let mut runs = Vec::new(alloc);
     for area in areas {
         let last = area.start + area.len - 1;
-        runs.push((area.start as u16, last as u16))?;
+        runs.push(Extent {
+            first: area.start as u16,
+            last: last as u16,
+        })?;
     }
     Ok(runs)
 }

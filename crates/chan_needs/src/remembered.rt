@@ -1,4 +1,4 @@
-//! What a supervisor remembers of a program, and whether others may write while programs run.
+//! The kept bytes of a program, and whether others may write while programs run.
 
 ghost use Rattle.std.specs.Prelude.{◌≡◌, ◌+◌, ◌++◌, ◌<◌, ◌≤◌, ◌↔◌, IfSome, IsSome, IsTrue, None};
 ghost use Rattle.std.specs.Prelude.{MatchOption, drop, length, take};
@@ -6,32 +6,12 @@ ghost use Rattle.std.specs.List.{All};
 ghost use Rattle.ccw_core.specs.Ccw.{byte};
 ghost use Rattle.ccw_core.specs.Held.{bytes_held};
 ghost use Rattle.chan_needs.specs.Remembered.{HoldsAreas, HoldsArea, IsFirstChanged};
-ghost use Rattle.chan_needs.specs.Remembered.{IsFirstChangedIn};
-ghost use Rattle.chan_needs.specs.Remembered.{IsInside, IsKeeperOf, WritesWell, bytes_in};
-ghost use Rattle.chan_needs.specs.Remembered.{total_len};
+ghost use Rattle.chan_needs.specs.Remembered.{IsFirstChangedIn, IsInside, IsKeeperOf, WritesWell};
+ghost use Rattle.chan_needs.specs.Remembered.{bytes_in, total_len};
 ghost use Rattle.chan_areas.specs.Merged.{IsMerged};
 
-use crate::rows::Rows;
+use crate::layout::Remembered;
 use ccw_core::{Area, Storage};
-
-/// All that a supervisor remembers of a program that it has asked about, so that the program may
-/// start later, together with others. The layout is that of C. The struct may hold anything: each
-/// call that takes it says what its answer means then.
-#[repr(C)]
-#[derive(Clone, Copy)]
-pub struct Remembered<'a> {
-    /// What the program needs and keeps, as `needs` gave it.
-    pub rows: Rows<'a>,
-    /// The kept bytes as they were, area after area. Bytes after them don't matter.
-    pub kept: &'a [u8],
-    /// The address of the first CCW.
-    pub start: u32,
-    /// The number of the device, 2311 or 2314.
-    pub device: u16,
-    /// Room for the fields of a later version; 0 in this version. No call of this crate looks at
-    /// it.
-    pub reserved: [u64; 4],
-}
 
 /// Whether others, such as the processor, may write to an area now. `None` comes exactly if no
 /// program in flight keeps a byte of the area. Otherwise the answer is the number of the first
@@ -45,7 +25,7 @@ pub fn may_write(in_flight: &[Remembered], area: Area) -> Option<(usize, u32)>
     ensures well { result ≡ None → WritesWell in_flight.now area }
 {
     for i in 0..in_flight.len() {
-        if let Some(byte) = in_flight[i].rows.kept_in(area) {
+        if let Some(byte) = in_flight[i].needs.kept_in(area) {
             return Some((i, byte));
         }
     }

@@ -2,16 +2,18 @@
 
 ghost use Rattle.std.specs.Prelude.{◌≡◌, ◌↔◌, IfOk, MatchOption};
 ghost use Rattle.std.specs.List.{All};
-ghost use Rattle.chan_needs.specs.Start.{IsAnswerOf, IsFit, IsBeside, GrantsListed, IsNotBeside};
+ghost use Rattle.chan_needs.specs.Start.{IsAnswerOf, IsFit, IsCompatibleWith, GrantsListed};
+ghost use Rattle.chan_needs.specs.Start.{HasConflictInFlight};
 ghost use Rattle.chan_needs.specs.Start.{IsNotGranted, IsOfAnother, IsOfProgram, StartsWell};
 ghost use Rattle.chan_needs.specs.Remembered.{device_number};
-ghost use Rattle.chan_needs.specs.Rows.{rows_of};
+ghost use Rattle.chan_needs.specs.Listed.{listed_in};
 ghost use Rattle.ckd_core.specs.Mask.{is_at_least};
 ghost use Rattle.chan_needs.specs.declared.start.Start.TheVariants as answer;
 
+use crate::conflict::Conflict;
+use crate::layout::{NeedLists, Remembered};
 use crate::least_bytes::{least_outside, least_unlent};
-use crate::remembered::{Remembered, first_changed};
-use crate::rows::{Conflict, Rows, or_empty};
+use crate::remembered::first_changed;
 use chan_walk::Job;
 use ckd_core::{Device, FileMask};
 use std::alloc::{AllocError, Global};
@@ -40,7 +42,7 @@ pub enum StartRefusal {
     Store(u32),
     /// The program may not run beside the program with this number, the first in flight that is in
     /// the way.
-    Beside(usize, Conflict),
+    Conflict(usize, Conflict),
 }
 
 /// Whether a program may start.
@@ -59,20 +61,20 @@ pub enum Start {
 ///
 /// 1. the job is of the program: same start, same device, same length of storage;
 /// 2. storage holds what was kept;
-/// 3. the job grants what the rows list: mask, cylinders, bytes for fetching, bytes for storing;
+/// 3. the job grants what is listed: mask, cylinders, bytes for fetching, bytes for storing;
 /// 4. neither the program nor any program in flight stores into a byte that the other keeps.
 ///
-/// `No` names the first condition that fails. This holds for rows from anywhere. If what is
+/// `No` names the first condition that fails. This holds for lists from anywhere. If what is
 /// remembered of the program and of the programs in flight is true, the answer is about the
 /// programs themselves: after a `Yes` the program may start, and what is remembered of it is true
 /// of it in flight. Refusals are exact: `No` names a grant only if the job doesn't grant the needs,
 /// and a program in flight only if the two can't run side by side.
 ///
-/// With k kept bytes, a lent areas, p programs in flight, and at most n rows for each program, the
-/// cost is k + (n + a) log a + p n, and up to 203 look-ups for each run of cylinders. Two programs
-/// whose areas aren't merged cost the product of their numbers; `needs` gives merged areas. The
-/// call takes memory only for the lent areas: two copies of one of their two lists at a time. `Err`
-/// means that memory ran out.
+/// With k kept bytes, a lent areas, p programs in flight, and lists of at most n elements for each
+/// program, the cost is k + (n + a) log a + p n, and a look-up for each cylinder of each run. Two
+/// programs whose areas aren't merged cost the product of their numbers; `needs` gives merged
+/// areas. The call takes memory only for the lent areas: two copies of one of their two lists at a
+/// time. `Err` means that memory ran out.
 pub fn may_start(
     alloc: Global,
     job: &Job,
@@ -90,14 +92,13 @@ pub fn may_start(
     if let Some(refusal) = of_another(job, program) {
         return Ok(Start::No(refusal));
     }
-    let (keep, kept) = (or_empty(program.rows.keep), or_empty(program.kept));
-    if let Some(address) = first_changed(&job.storage, keep, kept) {
+    if let Some(address) = first_changed(&job.storage, program.needs.keep(), program.kept()) {
         return Ok(Start::No(StartRefusal::Changed(address)));
     }
-    if let Some(refusal) = not_granted(alloc, job, &program.rows)? {
+    if let Some(refusal) = not_granted(alloc, job, &program.needs)? {
         return Ok(Start::No(refusal));
     }
-    match not_beside(program, in_flight) {
+    match conflict_in_flight(program, in_flight) {
         Some(refusal) => Ok(Start::No(refusal)),
         None => Ok(Start::Yes),
     }
@@ -114,7 +115,7 @@ fn of_another(job: &Job, program: &Remembered) -> Option<StartRefusal>
     if device_number(job.device) != program.device {
         return Some(StartRefusal::OtherDevice);
     }
-    if job.storage.len() != program.rows.storage_len {
+    if job.storage.len() != program.needs.storage_len {
         return Some(StartRefusal::OtherLength);
     }
     None
@@ -141,33 +142,36 @@ fn is_as_strict(byte: u8, than: FileMask) -> bool
     }
 }
 
-/// What the rows list but the job doesn't grant.
-fn not_granted(alloc: Global, job: &Job, rows: &Rows) -> Result<Option<StartRefusal>, AllocError>
-    ensures { IfOk result (λ o. MatchOption o (GrantsListed job.now (rows_of rows.now))
-        (IsNotGranted job.now (rows_of rows.now))) }
+/// What is listed as needed but the job doesn't grant.
+fn not_granted(
+    alloc: Global,
+    job: &Job,
+    needs: &NeedLists,
+) -> Result<Option<StartRefusal>, AllocError>
+    ensures { IfOk result (λ o. MatchOption o (GrantsListed job.now (listed_in needs.now))
+        (IsNotGranted job.now (listed_in needs.now))) }
 {
-    if !is_as_strict(rows.mask, job.mask) {
+    if !is_as_strict(needs.mask, job.mask) {
         return Ok(Some(StartRefusal::Mask));
     }
-    if let Some(cylinder) = least_outside(or_empty(rows.extents), job.extents) {
+    if let Some(cylinder) = least_outside(needs.extents(), job.extents) {
         return Ok(Some(StartRefusal::Cylinder(cylinder)));
     }
-    let (fetch, store) = (or_empty(rows.fetch), or_empty(rows.store));
-    if let Some(byte) = least_unlent(alloc, fetch, job.fetch, job.storage.len())? {
+    if let Some(byte) = least_unlent(alloc, needs.fetch(), job.fetch, job.storage.len())? {
         return Ok(Some(StartRefusal::Fetch(byte)));
     }
-    let unlent = least_unlent(alloc, store, job.store, job.storage.len())?;
+    let unlent = least_unlent(alloc, needs.store(), job.store, job.storage.len())?;
     Ok(unlent.map(|byte| StartRefusal::Store(byte)))
 }
 
-/// The first program in flight beside which the program may not run, and their conflict.
-fn not_beside(program: &Remembered, in_flight: &[Remembered]) -> Option<StartRefusal>
-    ensures { MatchOption result (All (IsBeside program.now) in_flight.now)
-        (IsNotBeside program.now in_flight.now) }
+/// The first program in flight with which the program is in conflict, and how.
+fn conflict_in_flight(program: &Remembered, in_flight: &[Remembered]) -> Option<StartRefusal>
+    ensures { MatchOption result (All (IsCompatibleWith program.now) in_flight.now)
+        (HasConflictInFlight program.now in_flight.now) }
 {
     for i in 0..in_flight.len() {
-        if let Some(conflict) = program.rows.conflict(&in_flight[i].rows) {
-            return Some(StartRefusal::Beside(i, conflict));
+        if let Some(conflict) = program.needs.conflict(&in_flight[i].needs) {
+            return Some(StartRefusal::Conflict(i, conflict));
         }
     }
     None

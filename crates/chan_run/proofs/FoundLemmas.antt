@@ -1,13 +1,12 @@
 -- The lines of programs that are found, one after another.
 use Rattle.std.proofs.Common.{◌≡◌, ◌∙◌, ◌<◌, ◌++◌, ◌∷◌, [], List, ap, arith, append_assoc}
-use Rattle.std.proofs.Common.{append-nil, length, refl, slice_index_or, suc, sym, take, zero}
-use Rattle.std.proofs.Common.{ℕ}
-use Rattle.chan_deck.specs.Parts.{storage_with}
+use Rattle.std.proofs.Common.{append-nil, length, refl, slice_index_or, suc, sym, take, zero, ℕ}
+use Rattle.chan_deck.specs.PartsImage.{storage_with}
 use Rattle.chan_walk.specs.declared.job.Job.{Job}
 use Rattle.chan_walk.specs.OpenJob.{open_job}
 use Rattle.chan_find.specs.Programs.{AreProgramStarts, IsJobOver}
 use Rattle.chan_run.specs.Find.{AreLines, AreStartsInImage}
-use Rattle.chan_run.specs.OutputWords.{IsRowLine, row_line, row_texts}
+use Rattle.chan_run.specs.OutputWords.{IsDefinitionLine, definition_line, definition_texts}
 use Rattle.std.specs.Borrow.{Bor}
 use Rattle.chan_run.specs.declared.image_options.ImageOptions.{ImageOptions}
 
@@ -35,23 +34,23 @@ starts_over o image held starts items is same are j over =
     rw same (are j (record { storage = over.storage ∙ sym is; device = over.device }))
 
 -- the line of a row more
-pub rows_more : (rows : List (Bor (List ℕ))) (i : ℕ) (d : Bor (List ℕ)) (text line : List ℕ)
-    → i < length rows → AreLines IsRowLine (take i (row_texts rows)) text
-    → line ≡ row_line (slice_index_or rows i d).now
-    → AreLines IsRowLine (take (suc i) (row_texts rows)) (text ++ line)
-rows_more [] i d text line lt before is = absurd (omega (arith, lt))
-rows_more (r ∷ rows) zero d text line lt before is = (line, [], is, refl, rw before (sym (append-nil line)))
-rows_more (r ∷ rows) (suc i) d text line lt (first, rest, at, are, joins) is = (
+pub definitions_more : (rows : List (Bor (List ℕ))) (i : ℕ) (d : Bor (List ℕ)) (text line : List ℕ)
+    → i < length rows → AreLines IsDefinitionLine (take i (definition_texts rows)) text
+    → line ≡ definition_line (slice_index_or rows i d).now
+    → AreLines IsDefinitionLine (take (suc i) (definition_texts rows)) (text ++ line)
+definitions_more [] i d text line lt before is = absurd (omega (arith, lt))
+definitions_more (r ∷ rows) zero d text line lt before is = (line, [], is, refl, rw before (sym (append-nil line)))
+definitions_more (r ∷ rows) (suc i) d text line lt (first, rest, at, are, joins) is = (
   first,
   rest ++ line,
   at,
-  rows_more rows i d rest line (omega (arith, lt)) are is,
+  definitions_more rows i d rest line (omega (arith, lt)) are is,
   ap (λ t. t ++ line) joins ∙ append_assoc first rest line,
 )
 
 -- the lines of all rows
 pub all_rows : (rows : List (Bor (List ℕ))) (n : ℕ) (text : List ℕ) → length rows ≡ n
-    → AreLines IsRowLine (take n (row_texts rows)) text → AreLines IsRowLine (row_texts rows) text
+    → AreLines IsDefinitionLine (take n (definition_texts rows)) text → AreLines IsDefinitionLine (definition_texts rows) text
 all_rows [] zero text is are = are
 all_rows [] (suc n) text is are = are
 all_rows (r ∷ rows) zero text is are = absurd (omega (arith, is))

@@ -1,5 +1,5 @@
 -- The deck with the least job: its areas have six digits, and the verdict on its job is yes.
-use Rattle.std.proofs.Common.{◌≡◌, ℕ, ◌+◌, ◌-◌, ◌∙◌, ◌<◌, ◌≤◌, ◌==◌, ◌^◌, Bool, ◌||◌, true, false}
+use Rattle.std.proofs.Common.{◌≡◌, ℕ, ◌+◌, ◌-◌, ◌∙◌, ◌<◌, ◌≤◌, ◌==◌, Bool, ◌||◌, true, false}
 use Rattle.std.proofs.Common.{List, [], ◌∷◌, ◌++◌, length, ◌⊎◌, inl, inr, arith, refl, sym, ap}
 use Rattle.std.proofs.Common.{Some, nat_le, subst}
 use Rattle.std.specs.List.{AllByRecursion}
@@ -12,51 +12,50 @@ use Rattle.chan_walk.specs.declared.job.Job.{Job}
 use Rattle.chan_walk.specs.declared.verdict.Verdict.TheVariants.{Yes}
 use Rattle.chan_walk.specs.Job.{storage_of, extents_of, fetch_of, store_of}
 use Rattle.chan_walk.specs.OpenJob.{AreOfOneProgram, all_storage, open_job, IsOpenJob}
-use Rattle.chan_needs.specs.Needs.{Grants, Serves}
+use Rattle.chan_needs.specs.Needs.{Grants, MaskServes}
 use Rattle.chan_areas.specs.Merged.{IsByteOf, IsMerged}
-use Rattle.chan_needs.specs.Rows.{AreNeeds, Listed}
+use Rattle.chan_needs.specs.Listed.{AreNeeds, Listed}
 use Rattle.chan_walk.specs.Place.{first_place}
 use Rattle.chan_walk.specs.Verdict.{IsVerdict}
 use Rattle.chan_walk.proofs.Theory.Faults.{clear_stands, yes_clear}
 use Rattle.ccw_core.specs.Storage.{is_inside, range_at}
-use Rattle.chan_deck.specs.Item.{IsAddress}
-use Rattle.chan_deck.specs.Parts.{storage_with}
+use Rattle.chan_deck.specs.Item.{IsAddress, IsArea}
+use Rattle.chan_deck.specs.PartsImage.{storage_with}
 use Rattle.chan_areas.proofs.Merging.{lies_in-append, lies_in-cases, lies_in-first, lies_in-rest}
 use Rattle.chan_needs.proofs.Needing.{granted_yes, yes_grants}
 use Rattle.chan_walk.proofs.Algorithms.Opened.{to_open}
 use Rattle.chan_deck.specs.Image.{Image, limit_of}
 use Rattle.chan_deck.proofs.PartLemmas.{storage_fits}
-use Rattle.chan_deck.specs.Item.{IsArea}
 use Rattle.chan_deck.specs.Needs.{halves, in_six_digits, six_digit_parts}
-use Rattle.chan_args.specs.declared.image_words.AskedJob.TheVariants as jobs
-use Rattle.chan_run.specs.Image.{IsAskedDeck, IsOfOpenJob}
-use Rattle.chan_run.specs.Image.{IsProgramIn, areas_over, least_deck}
+use Rattle.chan_args.specs.declared.image_words.RequestedJob.TheVariants as jobs
+use Rattle.chan_run.specs.Image.{IsRequestedDeck, IsOfOpenJob, IsProgramIn, least_deck}
 use Rattle.chan_run.specs.Output.{IsDeckJob, deck_of_job, extents_for, granting_just}
 use Rattle.chan_run.specs.declared.image_options.ImageOptions.{ImageOptions}
+use Rattle.ccw_core.specs.declared.ccw.TheConstants.{STORAGE_LIMIT}
 
 -- ---- six digits
 
 -- an area that isn't empty and ends in the largest storage
 abbrev pub Fits : Area → Type 0
-Fits a = (0 < a.len) × (end_of a ≤ 2 ^ 24)
+Fits a = (0 < a.len) × (end_of a ≤ STORAGE_LIMIT)
 
 -- so is each of a merged list whose bytes all lie in it
-pub merged_fit : (areas : List Area) → IsMerged areas → ((b : ℕ) → lies_in areas b ≡ true → b < 2 ^ 24)
+pub merged_fit : (areas : List Area) → IsMerged areas → ((b : ℕ) → lies_in areas b ≡ true → b < STORAGE_LIMIT)
     → AllByRecursion Fits areas
 merged_fit [] merged below = tt
 merged_fit (a ∷ rest) (some, above, merged) below =
-    let last : a.start + (a.len - 1) < 2 ^ 24 = below _ (lies_in-first a rest _ (omega (arith, some), omega (arith, some))) in
+    let last : a.start + (a.len - 1) < STORAGE_LIMIT = below _ (lies_in-first a rest _ (omega (arith, some), omega (arith, some))) in
     ((some, omega (arith, last, some)), merged_fit rest merged (λ b lies. below b (lies_in-rest a rest b lies)))
 
 -- and so its start and its length have six digits, in two parts if it is all of that storage
-split_area : (a : Area) → a.start < 2 ^ 24 → end_of a ≤ 2 ^ 24 → (b : Bool) → (a.len == 2 ^ 24) ≡ b
+split_area : (a : Area) → a.start < STORAGE_LIMIT → end_of a ≤ STORAGE_LIMIT → (b : Bool) → (a.len == STORAGE_LIMIT) ≡ b
     → AllByRecursion IsArea (six_digit_parts a)
 split_area a low ends true is = rw is ((omega arith, omega arith), ((omega arith, omega arith), tt))
-split_area a low ends false is = rw is ((low, below (cases_lt a.len (2 ^ 24))), tt)
+split_area a low ends false is = rw is ((low, below (cases_lt a.len STORAGE_LIMIT)), tt)
   where
-    below : (a.len < 2 ^ 24) ⊎ (2 ^ 24 ≤ a.len) → a.len < 2 ^ 24
+    below : (a.len < STORAGE_LIMIT) ⊎ (STORAGE_LIMIT ≤ a.len) → a.len < STORAGE_LIMIT
     below (inl lt) = lt
-    below (inr le) = absurd (eqb-false a.len (2 ^ 24) is (omega (arith, le, ends)))
+    below (inr le) = absurd (eqb-false a.len STORAGE_LIMIT is (omega (arith, le, ends)))
 
 areas_append : (xs ys : List Area) → AllByRecursion IsArea xs → AllByRecursion IsArea ys
     → AllByRecursion IsArea (xs ++ ys)
@@ -67,16 +66,10 @@ pub six_are_areas : (areas : List Area) → AllByRecursion Fits areas → AllByR
 six_are_areas [] fit = tt
 six_are_areas (a ∷ rest) fit =
     areas_append (six_digit_parts a) (in_six_digits rest)
-    (split_area a (omega (arith, fit.0.0, fit.0.1)) fit.0.1 (a.len == 2 ^ 24) refl) (six_are_areas rest fit.1)
-
--- and so have those of all of some storage
-pub all_are_areas : (storage : List ℕ) → length storage ≤ 2 ^ 24 → AllByRecursion IsArea (areas_over storage)
-all_are_areas storage short =
-    let all : Area = record { start = 0; len = length storage } in
-    areas_append (six_digit_parts all) [] (split_area all (omega arith) (omega (arith, short)) (all.len == 2 ^ 24) refl) tt
+    (split_area a (omega (arith, fit.0.0, fit.0.1)) fit.0.1 (a.len == STORAGE_LIMIT) refl) (six_are_areas rest fit.1)
 
 -- a byte of an area lies in its parts
-in_split : (a : Area) (b : ℕ) → Fits a → IsByteOf a b → (all : Bool) → (a.len == 2 ^ 24) ≡ all
+in_split : (a : Area) (b : ℕ) → Fits a → IsByteOf a b → (all : Bool) → (a.len == STORAGE_LIMIT) ≡ all
     → lies_in (six_digit_parts a) b ≡ true
 in_split a b fits lies false is = rw is (lies_in-first a [] b lies)
 in_split a b fits lies true is = rw is (go (cases_lt b 0xFFFFFF))
@@ -102,7 +95,7 @@ in_six (a ∷ rest) b fit lies = go (in_six rest b fit.1) (lies_in-cases a rest 
 
     go : (lies_in rest b ≡ true → lies_in (in_six_digits rest) b ≡ true) → IsByteOf a b ⊎ (lies_in rest b ≡ true)
         → lies_in (in_six_digits (a ∷ rest)) b ≡ true
-    go others (inl here) = parts ∙ or_left _ _ (in_split a b fit.0 here (a.len == 2 ^ 24) refl)
+    go others (inl here) = parts ∙ or_left _ _ (in_split a b fit.0 here (a.len == STORAGE_LIMIT) refl)
     go others (inr there) = parts ∙ or_right _ _ (others there)
 
 -- ---- the least job
@@ -131,20 +124,20 @@ open_grants : (j : Job) (n : Listed) → AreNeeds j n → Grants j (open_job j)
 open_grants j n needs = yes_grants j (open_job j) (to_open j j (same_program j)) needs.verdict
 
 -- so what is fetched and what is stored into fit, where storage isn't too large
-pub fetch_fits : (j : Job) (n : Listed) → AreNeeds j n → length (storage_of j) ≤ 2 ^ 24
+pub fetch_fits : (j : Job) (n : Listed) → AreNeeds j n → length (storage_of j) ≤ STORAGE_LIMIT
     → AllByRecursion Fits n.fetch
 fetch_fits j n needs short = merged_fit n.fetch needs.fetch.merged below
   where
-    below : (b : ℕ) → lies_in n.fetch b ≡ true → b < 2 ^ 24
+    below : (b : ℕ) → lies_in n.fetch b ≡ true → b < STORAGE_LIMIT
     below b lies =
         let lt : b < length (storage_of j) = in_storage j b ((open_grants j n needs).fetch b ((needs.fetch.bytes b).0 lies)) in
         omega (arith, lt, short)
 
-pub store_fits : (j : Job) (n : Listed) → AreNeeds j n → length (storage_of j) ≤ 2 ^ 24
+pub store_fits : (j : Job) (n : Listed) → AreNeeds j n → length (storage_of j) ≤ STORAGE_LIMIT
     → AllByRecursion Fits n.store
 store_fits j n needs short = merged_fit n.store needs.store.merged below
   where
-    below : (b : ℕ) → lies_in n.store b ≡ true → b < 2 ^ 24
+    below : (b : ℕ) → lies_in n.store b ≡ true → b < STORAGE_LIMIT
     below b lies =
         let lt : b < length (storage_of j) = in_storage j b ((open_grants j n needs).store b ((needs.store.bytes b).0 lies)) in
         omega (arith, lt, short)
@@ -155,7 +148,7 @@ in_extents [] c has = absurd (no_cylinder c has)
 in_extents (run ∷ runs) c has = has
 
 -- the verdict is yes on a job that grants just what is needed
-pub least_is_yes : (j : Job) (n : Listed) → AreNeeds j n → length (storage_of j) ≤ 2 ^ 24 → j.mask ≡ n.mask
+pub least_is_yes : (j : Job) (n : Listed) → AreNeeds j n → length (storage_of j) ≤ STORAGE_LIMIT → j.mask ≡ n.mask
     → extents_of j ≡ extents_for n.extents → fetch_of j ≡ in_six_digits n.fetch
     → store_of j ≡ in_six_digits n.store → IsVerdict j Yes
 least_is_yes j n needs short mask extents fetch store =
@@ -163,7 +156,7 @@ least_is_yes j n needs short mask extents fetch store =
   where
     grants : Grants j j
     grants = record {
-      mask = subst (λ m. Serves j m) (sym mask) needs.mask.holds;
+      mask = subst (λ m. MaskServes j m) (sym mask) needs.mask.holds;
       extents = λ c needed. rw extents (in_extents n.extents c ((needs.extents.cylinders c).1 needed));
       fetch = λ b needed. rw fetch (in_six n.fetch b (fetch_fits j n needs short) ((needs.fetch.bytes b).1 needed));
       store = λ b needed. rw store (in_six n.store b (store_fits j n needs short) ((needs.store.bytes b).1 needed));
@@ -182,10 +175,10 @@ program_of o image n d j is of = record {
 }
 
 pub least_asked : (o : ImageOptions) (image : List ℕ) (n : Listed) (d : Image) → o.job ≡ jobs.Least
-    → o.at + length image ≤ 2 ^ 24 → ((j : Job) → IsProgramIn o image j → AreNeeds j n)
-    → d ≡ least_deck o image n → IsAskedDeck o.job o image d
+    → o.at + length image ≤ STORAGE_LIMIT → ((j : Job) → IsProgramIn o image j → AreNeeds j n)
+    → d ≡ least_deck o image n → IsRequestedDeck o.job o image d
 least_asked o image n d least short needs is =
-    subst (λ b. IsAskedDeck b o image d) (sym least) (record { needed = n; needs = needs; is = is; yes = yes })
+    subst (λ b. IsRequestedDeck b o image d) (sym least) (record { needed = n; needs = needs; is = is; yes = yes })
   where
     yes : (j : Job) → IsDeckJob d j → IsVerdict j Yes
     yes j of =
@@ -214,7 +207,7 @@ unfolding is_inside
 inside_below n a is = leb-true (a + 8) n is
 
 -- a program that needs something begins at an address
-pub begins_low : (j : Job) (n : Listed) → AreNeeds j n → length (storage_of j) ≤ 2 ^ 24 → IsAddress j.start
+pub begins_low : (j : Job) (n : Listed) → AreNeeds j n → length (storage_of j) ≤ STORAGE_LIMIT → IsAddress j.start
 begins_low j n needs short =
     let k = open_job j in
     let stands = clear_stands k (first_place k) (yes_clear k needs.verdict (first_place k) ([], refl)) in
@@ -222,7 +215,7 @@ begins_low j n needs short =
 
 -- the verdict is yes on the job of a deck that grants just what another job's program needs
 pub granting_is_yes : (j : Job) (n : Listed) → ((k : Job) → AreOfOneProgram k j → AreNeeds k n)
-    → length (storage_of j) ≤ 2 ^ 24 → storage_with 0 (storage_of j) ≡ storage_of j → (k : Job)
+    → length (storage_of j) ≤ STORAGE_LIMIT → storage_with 0 (storage_of j) ≡ storage_of j → (k : Job)
     → IsDeckJob (granting_just (deck_of_job j) n) k → IsVerdict k Yes
 granting_is_yes j n needs short same k of =
     let one : AreOfOneProgram k j = record { storage = of.storage ∙ same; start = of.start; device = of.device } in

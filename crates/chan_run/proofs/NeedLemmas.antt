@@ -3,21 +3,22 @@ use Rattle.std.proofs.Common.{◌≡◌, ℕ, ◌≤◌, ◌<◌, ◌||◌, nat_
 use Rattle.std.proofs.Common.{inr, refl, arith}
 use Rattle.std.specs.List.{AllByRecursion}
 use Rattle.std.proofs.lemmas.Bool.{both_ways, cases_lt, le-leb}
-use Rattle.ckd_core.specs.Extents.{has_cylinder, IsExtent}
+use Rattle.ckd_core.specs.Extents.{has_cylinder, all_cylinders, IsExtent}
 use Rattle.ckd_core.proofs.CylinderLemmas.{has_cylinder-past}
 use Rattle.chan_walk.specs.declared.job.Job.{Job}
 use Rattle.chan_walk.specs.OpenJob.{AreOfOneProgram, open_job}
-use Rattle.chan_needs.specs.Rows.{AreNeeds, AreRising, Listed}
+use Rattle.chan_needs.specs.Listed.{AreNeeds, AreRising, Listed}
 use Rattle.chan_walk.proofs.Algorithms.Opened.{to_open}
 use Rattle.chan_needs.proofs.Needing.{yes_grants}
+use Rattle.ckd_core.specs.declared.device.TheConstants.{CYLINDERS, LAST_CYLINDER}
 
 -- a cylinder in all of the device is on it
-on_device : (n : ℕ) → has_cylinder ((0, 202) ∷ []) n ≡ true → n ≤ 202
-on_device n has = go (cases_lt n 203)
+on_device : (n : ℕ) → has_cylinder all_cylinders n ≡ true → n ≤ LAST_CYLINDER
+on_device n has = go (cases_lt n CYLINDERS)
   where
-    go : (n < 203) ⊎ (203 ≤ n) → n ≤ 202
+    go : (n < CYLINDERS) ⊎ (CYLINDERS ≤ n) → n ≤ LAST_CYLINDER
     go (inl low) = omega (arith, low)
-    go (inr past) = absurd (both_ways _ (has_cylinder-past ((0, 202) ∷ []) n ((omega arith, omega arith), tt) past) has)
+    go (inr past) = absurd (both_ways _ (has_cylinder-past all_cylinders n ((omega arith, omega arith), tt) past) has)
 
 -- the last cylinder of the first run is in the runs, and what is in the others is
 has_last : (r : ℕ × ℕ) (runs : List (ℕ × ℕ)) → r.0 ≤ r.1 → has_cylinder (r ∷ runs) r.1 ≡ true
@@ -36,7 +37,7 @@ has_rest r runs n has = or_right _ _ has
     or_right false b e = e
 
 -- runs of cylinders on the device are extents
-on_device_all : (runs : List (ℕ × ℕ)) → AreRising runs → ((n : ℕ) → has_cylinder runs n ≡ true → n ≤ 202)
+on_device_all : (runs : List (ℕ × ℕ)) → AreRising runs → ((n : ℕ) → has_cylinder runs n ≡ true → n ≤ LAST_CYLINDER)
     → AllByRecursion IsExtent runs
 on_device_all [] rising low = tt
 on_device_all (r ∷ runs) rising low =

@@ -1,12 +1,13 @@
 -- Room for an image, and the zeros behind it.
 use Rattle.std.proofs.Common.{◌≡◌, ◌<◌, ◌≤◌, ◌-◌, ◌++◌, ◌⊎◌, ℕ, List, true, false, Option, Some}
 use Rattle.std.proofs.Common.{None, arith, inl, length, refl, take}
-use Rattle.std.specs.Prelude.{◌^◌, is_some, replicate, unwrap_or}
+use Rattle.std.specs.Prelude.{is_some, replicate, unwrap_or}
 use Rattle.std.proofs.lemmas.List.{take_all}
 use Rattle.chan_run.specs.Image.{filled}
+use Rattle.ccw_core.specs.declared.ccw.TheConstants.{STORAGE_LIMIT}
 
 -- an address in the largest storage lies past storage only where a smaller size was asked for
-pub past_storage : (X : Type 0) (size : Option ℕ) (at : ℕ) → unwrap_or size (2 ^ 24) < at → at < 2 ^ 24
+pub past_storage : (X : Type 0) (size : Option ℕ) (at : ℕ) → unwrap_or size STORAGE_LIMIT < at → at < STORAGE_LIMIT
     → (n : ℕ) × (size ≡ Some n) × ((n < at) ⊎ X)
 past_storage X None at past small = absurd (omega (arith, past, small))
 past_storage X (Some n) at past small = (n, refl, inl past)

@@ -1,13 +1,13 @@
 -- What a writer got, part by part, where the parts are known by equations.
 use Rattle.std.proofs.Common.{◌≤◌, ◌<◌, ◌+◌, ◌-◌, ◌∷◌, List, [], ℕ, Bor, Option, arith, drop}
-use Rattle.std.proofs.Common.{◌≡◌, ◌∙◌, ◌++◌, Bool, false, length, slice_index_or, suc, sym, take, true, zero}
+use Rattle.std.proofs.Common.{◌≡◌, ◌∙◌, ◌++◌, Bool, false, length, slice_index_or, suc, sym, take}
+use Rattle.std.proofs.Common.{true, zero}
 use Rattle.std.proofs.KnownBytes.{Appends-trans}
 use Rattle.std.specs.Io.KnownBytes.{Appends}
 use Rattle.std.proofs.lemmas.List.{length-append, take_all}
 use Rattle.ccw_core.specs.Written.{AppendsPrefix}
 pub use Rattle.ccw_core.proofs.Prefixes.{prefix_after, prefix_of_more}
-use Rattle.chan_run.specs.Texts.{concatenated}
-use Rattle.chan_run.specs.Texts.{WriterGot}
+use Rattle.chan_run.specs.Texts.{concatenated, WriterGot}
 
 -- some texts before one, and this one, are no longer than all of them
 pub no_longer : (texts : List (Bor (List ℕ))) (i : ℕ) (d : Bor (List ℕ)) → i < length texts

@@ -33,8 +33,8 @@ is_advised (actions.Needs deck) = true
 is_advised _ = false
 
 -- the text has the notes on the job, if there are any
-abbrev pub AreNotesSaid : Job → List ℕ → Type 0
-AreNotesSaid j text =
+abbrev pub AreJobNotes : Job → List ℕ → Type 0
+AreJobNotes j text =
     (n : Notes) × (hang : Option Place) × AreNotes j n × IsFirstPlace (MayHang j) hang
     × ((text ≡ []) ↔ HasNoNote n hang)
 
@@ -51,18 +51,18 @@ is_chained_over [] = false
 is_chained_over (o ∷ os) = not (is_fresh o.place.entered) && o.place.after_transfer
 
 -- the text has that note, unless a transfer into the midst of a data chain is the likelier fault
-abbrev pub IsExchangeSaid : Job → List Offence → Verdict → List ℕ → Type 0
-IsExchangeSaid j os v text =
+abbrev pub IsExchangeAdvice : Job → List Offence → Verdict → List ℕ → Type 0
+IsExchangeAdvice j os v text =
     ((is_chained_over os ≡ false) × IsExchangeNote j v text)
     ⊎ ((is_chained_over os ≡ true) × (text ≡ []))
 
 -- the text has what is said of a verdict: the notes after a yes, or that note after a no, and how
 -- to cure the no, of which tests hold the text
-abbrev pub IsSaidOf : Job → Verdict → List ℕ → Type 0
-IsSaidOf j Yes text = AreNotesSaid j text
-IsSaidOf j (No a r) text =
+abbrev pub IsJobAdvice : Job → Verdict → List ℕ → Type 0
+IsJobAdvice j Yes text = AreJobNotes j text
+IsJobAdvice j (No a r) text =
     (os : List Offence) × (said : List ℕ) × (cure : List ℕ) × AreOffences j os
-    × IsExchangeSaid j os (No a r) said × (text ≡ said ++ cure)
+    × IsExchangeAdvice j os (No a r) said × (text ≡ said ++ cure)
 
 -- the note on a no beside what a program needs
 abbrev pub no_job_note : Verdict → List ℕ
@@ -82,7 +82,7 @@ pub record IsWhyAdvice (told : Explained) (j : Job) (v : Verdict) (text : List �
   pub absent : List ℕ
   pub noted : IsAbsentNote told offences absent
   pub said : List ℕ
-  pub is_said : IsSaidOf j v said
+  pub is_said : IsJobAdvice j v said
   pub is : text ≡ absent ++ said
 
 -- the advice on a verdict: beside needs the note on a no

@@ -3,8 +3,8 @@ use Rattle.std.specs.Prelude.{◌≡◌, ◌⊎◌, ℕ, Bool, not, List, [], �
 use Rattle.chan_deck.specs.Reading.{is_empty}
 use Rattle.std.specs.Io.KnownBytes.{Appends}
 use Rattle.ccw_core.specs.Written.{AppendsPrefix}
-use Rattle.chan_deck.specs.Parts.{storage_with}
-use Rattle.chan_deck.specs.Texts.{program_line}
+use Rattle.chan_deck.specs.PartsImage.{storage_with}
+use Rattle.chan_deck.specs.VerdictLine.{program_line}
 use Rattle.chan_walk.specs.declared.job.Job.{Job}
 use Rattle.chan_walk.specs.declared.verdict.Verdict.{Verdict}
 use Rattle.chan_walk.specs.Answers.{IsAnswer}
@@ -14,7 +14,7 @@ use Rattle.chan_find.specs.Programs.{AreProgramStarts, IsJobOver}
 use Rattle.chan_run.specs.Image.{IsNoImage, IsProgramAt, IsWholeImage}
 use Rattle.chan_run.specs.ImageNote.{deck_note, find_note}
 use Rattle.chan_run.specs.Output.{IsUnwritten}
-use Rattle.chan_run.specs.Response.{IsBareResponse, IsDelivered, IsNotedResponse}
+use Rattle.chan_run.specs.Response.{IsBareResponse, IsDelivered, IsResponseWithoutOutput}
 use Rattle.chan_run.specs.declared.failure.Failure.{Failure}
 use Rattle.chan_run.specs.declared.response.Response.{Response}
 use Rattle.chan_run.specs.declared.failure.Failure.TheVariants as failures
@@ -67,36 +67,36 @@ pub record AreWritten (Wrote : List ℕ → Type 0) (o : ImageOptions) (image : 
 
 -- what each outcome of a search says of an image and the output: all lines were written; or, if a
 -- write failed, a prefix of the lines of the first programs; or, if memory ran out, these lines
-abbrev pub IsFoundAnswer : ImageOptions → List ℕ → Option (List ℕ) → Option (List ℕ)
+abbrev pub IsSearchOutput : ImageOptions → List ℕ → Option (List ℕ) → Option (List ℕ)
     → Outcome → Type 0
-IsFoundAnswer o image old new Done =
+IsSearchOutput o image old new Done =
     (starts : List ℕ) × AreStartsInImage o image starts
     × AreWritten (Appends old new) o image starts
-IsFoundAnswer o image old new (Failed failures.WriteFailed) =
+IsSearchOutput o image old new (Failed failures.WriteFailed) =
     (starts : List ℕ) × AreStartsInImage o image starts
     × (n : ℕ) × AreWritten (AppendsPrefix old new) o image (take n starts)
-IsFoundAnswer o image old new (Failed failures.OutOfMemory) =
+IsSearchOutput o image old new (Failed failures.OutOfMemory) =
     IsUnwritten old new ⊎ ((starts : List ℕ) × AreStartsInImage o image starts
     × (n : ℕ) × AreWritten (Appends old new) o image (take n starts))
-IsFoundAnswer o image old new _ = ⊥
+IsSearchOutput o image old new _ = ⊥
 
 -- the note on an image that was searched, by what came of the search
 abbrev pub IsFindNote : ImageOptions → List ℕ → Outcome → List ℕ → Type 0
 IsFindNote o image Done note =
     (starts : List ℕ) × AreStartsInImage o image starts
     × (note ≡ find_note image (not (is_empty starts)))
-IsFindNote o image came note = note ≡ deck_note image
+IsFindNote o image outcome note = note ≡ deck_note image
 
 -- the input was read to its end, and its image was searched: only the end is left to be delivered
 pub record IsSearched (o : ImageOptions) (old_in new_in old mid : Option (List ℕ)) (r : Response)
     : Type 0 where
   pub image : List ℕ
   pub input : IsWholeImage o old_in new_in image
-  pub came : Outcome
-  pub found : IsFoundAnswer o image old mid came
+  pub outcome : Outcome
+  pub found : IsSearchOutput o image old mid outcome
   pub note : List ℕ
-  pub noted : IsFindNote o image came note
-  pub is : IsNotedResponse came note r
+  pub noted : IsFindNote o image outcome note
+  pub is : IsResponseWithoutOutput outcome note r
 
 -- it wasn't read, and nothing was written
 abbrev pub IsUnsearched : ImageOptions → Option (List ℕ) → Option (List ℕ) → Option (List ℕ)
@@ -112,9 +112,9 @@ IsFindResponse o old_in new_in old mid r =
     IsSearched o old_in new_in old mid r ⊎ IsUnsearched o old_in new_in old mid r
 
 -- what a search for programs comes to: its lines were written, and then its end was delivered
-abbrev pub IsFindAnswered : Option (List ℕ) → ImageOptions → Option (List ℕ) → Option (List ℕ)
+abbrev pub IsFindDelivered : Option (List ℕ) → ImageOptions → Option (List ℕ) → Option (List ℕ)
     → Option (List ℕ) → Option (List ℕ) → Option (List ℕ) → Option (List ℕ) → Bool → Outcome
     → Type 0
-IsFindAnswered name o old_in new_in old new old_errors new_errors failed end =
+IsFindDelivered name o old_in new_in old new old_errors new_errors failed end =
     (mid : Option (List ℕ)) × (r : Response) × IsFindResponse o old_in new_in old mid r
     × IsDelivered name r mid new old_errors new_errors failed end

@@ -1,18 +1,18 @@
 -- What is written of an image of storage and the options with which a deck is made of it.
-use Rattle.std.specs.Prelude.{ℕ, ◌+◌, ◌-◌, ◌<◌, ◌≤◌, ◌^◌, ◌≡◌, ◌⊎◌, List, [], ◌∷◌, ◌++◌, length}
+use Rattle.std.specs.Prelude.{ℕ, ◌+◌, ◌-◌, ◌<◌, ◌≤◌, ◌≡◌, ◌⊎◌, List, [], ◌∷◌, ◌++◌, length}
 use Rattle.std.specs.Prelude.{Option, Some, None, replicate, unwrap_or}
 use Rattle.chan_deck.specs.Image.{Image, Spells, limit_of}
 use Rattle.ccw_core.specs.declared.areas.Area.{Area}
-use Rattle.chan_args.specs.declared.image_words.AskedJob.{AskedJob}
-use Rattle.chan_args.specs.declared.image_words.AskedJob.TheVariants as jobs
+use Rattle.chan_args.specs.declared.image_words.RequestedJob.{RequestedJob}
+use Rattle.chan_args.specs.declared.image_words.RequestedJob.TheVariants as jobs
 use Rattle.chan_deck.specs.Needs.{in_six_digits}
-use Rattle.chan_deck.specs.Parts.{storage_with, version_with}
+use Rattle.chan_deck.specs.PartsImage.{storage_with, version_with}
 use Rattle.chan_walk.specs.declared.job.Job.{Job}
 use Rattle.chan_walk.specs.declared.verdict.Verdict.TheVariants.{Yes, No}
 use Rattle.chan_walk.specs.Answers.{IsAnswer}
 use Rattle.chan_walk.specs.Places.{HasMoreThan}
 use Rattle.chan_walk.specs.Job.{storage_of}
-use Rattle.chan_needs.specs.Rows.{AreNeeds, Listed}
+use Rattle.chan_needs.specs.Listed.{AreNeeds, Listed}
 use Rattle.chan_walk.specs.OpenJob.{IsOpenJob}
 use Rattle.chan_walk.specs.Verdict.{IsVerdict}
 use Rattle.chan_run.specs.Input.{GaveAll, GaveOut, GaveTooMuch}
@@ -22,6 +22,8 @@ use Rattle.chan_run.specs.declared.failure.Failure.TheVariants as failures
 use Rattle.chan_run.specs.declared.outcome.Outcome.{Outcome}
 use Rattle.chan_run.specs.declared.outcome.Outcome.TheVariants.{Failed, NoJob}
 use Rattle.chan_run.specs.declared.image_options.ImageOptions.{ImageOptions}
+use Rattle.ckd_core.specs.Extents.{all_cylinders}
+use Rattle.ccw_core.specs.declared.ccw.TheConstants.{STORAGE_LIMIT}
 
 -- the deck that the options and an image of storage make
 abbrev pub deck_of : ImageOptions → List ℕ → Image
@@ -76,21 +78,21 @@ areas_over storage = in_six_digits ((record { start = 0; len = length storage })
 abbrev pub open_deck : ImageOptions → List ℕ → Image
 open_deck o image = record (deck_of o image) {
   mask = 0xC0;
-  extents = (0, 202) ∷ [];
+  extents = all_cylinders;
   fetch = areas_over (storage_with o.at image);
   store = areas_over (storage_with o.at image);
 }
 
 -- the deck that is asked for: its job is what the options say, or the least, or the open one
-abbrev pub IsAskedDeck : AskedJob → ImageOptions → List ℕ → Image → Type 0
-IsAskedDeck jobs.Named o image d = d ≡ deck_of o image
-IsAskedDeck jobs.Least o image d = IsLeastDeck o image d
-IsAskedDeck jobs.Open o image d = d ≡ open_deck o image
+abbrev pub IsRequestedDeck : RequestedJob → ImageOptions → List ℕ → Image → Type 0
+IsRequestedDeck jobs.Named o image d = d ≡ deck_of o image
+IsRequestedDeck jobs.Least o image d = IsLeastDeck o image d
+IsRequestedDeck jobs.Open o image d = d ≡ open_deck o image
 
 -- from the image's address on there is room for so many bytes: to the size of storage that was
 -- asked for, or the largest
 abbrev pub IsRoom : ImageOptions → ℕ → Type 0
-IsRoom o room = o.at + room ≡ unwrap_or o.size (2 ^ 24)
+IsRoom o room = o.at + room ≡ unwrap_or o.size STORAGE_LIMIT
 
 -- an image with zeros behind it, where a size of storage was asked for that leaves so much room
 abbrev pub filled : Option ℕ → ℕ → List ℕ → List ℕ
@@ -114,7 +116,7 @@ HasNoNeeds o image _ = ⊥
 
 -- the text is that of the deck that is asked for
 abbrev pub IsDeckText : ImageOptions → List ℕ → List ℕ → Type 0
-IsDeckText o image text = (d : Image) × IsAskedDeck o.job o image d × Spells text d
+IsDeckText o image text = (d : Image) × IsRequestedDeck o.job o image d × Spells text d
 
 -- why there is no such deck; it was the least job that was asked for, unless memory ran out
 abbrev pub IsNoDeck : ImageOptions → List ℕ → Outcome → Type 0

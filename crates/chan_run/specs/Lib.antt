@@ -15,7 +15,7 @@ pub mod Image
 pub mod ImageNote
 pub mod NoJob
 pub mod Advice
-pub mod Answers
+pub mod MadeDeck
 pub mod Texts
 pub mod Response
 pub mod Find

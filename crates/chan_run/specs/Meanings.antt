@@ -8,8 +8,8 @@ use Rattle.chan_run.specs.declared.outcome.Outcome.{Outcome}
 use Rattle.chan_run.specs.declared.outcome.Outcome.TheVariants.{Done, Failed, Unknown}
 use Rattle.chan_run.specs.declared.terms.Term.{Term}
 use Rattle.chan_run.specs.Find.{AreLines}
-use Rattle.chan_run.specs.OutputWords.{AreRowsListed, IsFirstRow, IsRowFor, output_words}
-use Rattle.chan_run.specs.OutputWords.{row_line}
+use Rattle.chan_run.specs.OutputWords.{AreDefinitionsListed, IsFirstDefinition, IsDefinitionOf}
+use Rattle.chan_run.specs.OutputWords.{output_words, definition_line}
 use Rattle.chan_run.specs.Spelled.{IsSpelled}
 use Rattle.chan_run.specs.Terms.{IsWordOf, word_of_term}
 use Rattle.chan_run.specs.declared.terms.TheConstants as texts
@@ -17,7 +17,8 @@ use Rattle.chan_run.specs.declared.terms.TheConstants as texts
 -- the text is in no table: no term has it, and it is none of the output
 abbrev pub IsInNoTable : List ℕ → Type 0
 IsInNoTable text =
-    ((t : Term) → ¬ IsWordOf text t) × All (λ row. ¬ IsRowFor text row) output_words
+    ((t : Term) → ¬ IsWordOf text t)
+    × All (λ definition. ¬ IsDefinitionOf text definition) output_words
 
 -- the text is no word: it is in no table, and is neither a command code nor a mask nor flags
 abbrev pub IsNoWord : List ℕ → Type 0
@@ -49,18 +50,19 @@ AreTermsListed terms old new end = ⊥
 abbrev pub AreWordsListed : Option (List ℕ) → Option (List ℕ) → Outcome → Type 0
 AreWordsListed old new Done =
     (mid : Option (List ℕ)) × AreTermsListed texts.TERMS old mid Done
-    × AreRowsListed output_words mid new Done
+    × AreDefinitionsListed output_words mid new Done
 AreWordsListed old new end =
     AreTermsListed texts.TERMS old new end
     ⊎ ((mid : Option (List ℕ)) × AreTermsListed texts.TERMS old mid Done
-    × AreRowsListed output_words mid new end)
+    × AreDefinitionsListed output_words mid new end)
 
 -- this is the meaning of a text: some meaning of its term, the line of its word of the output, or
 -- some line on the code, the mask or the flags that it spells
 abbrev pub IsMeaning : List ℕ → List ℕ → Type 0
 IsMeaning text meaning =
     ((t : Term) × IsWordOf text t)
-    ⊎ (((row : List ℕ) × IsFirstRow text output_words row × (meaning ≡ row_line row))
+    ⊎ (((definition : List ℕ) × IsFirstDefinition text output_words definition
+    × (meaning ≡ definition_line definition))
     ⊎ IsSpelled text)
 
 -- the text's meaning was written, or where a write failed a prefix of it

@@ -1,5 +1,5 @@
 -- What is said of an image if no job will do for its program.
-use Rattle.std.specs.Prelude.{◌≡◌, ◌++◌, ◌==◌, ◌&&◌, ◌^◌, ℕ, Bool, false, true, List, [], Option}
+use Rattle.std.specs.Prelude.{◌≡◌, ◌++◌, ◌==◌, ◌&&◌, ℕ, Bool, false, true, List, [], Option}
 use Rattle.std.specs.Prelude.{codes, if◌then◌else◌, length, nat_lt}
 use Rattle.chan_deck.specs.Notes.{storage_note}
 use Rattle.chan_walk.specs.Job.{storage_of}
@@ -12,6 +12,7 @@ use Rattle.chan_run.specs.Image.{IsOfOpenJob}
 use Rattle.chan_run.specs.Name.{name_before}
 use Rattle.chan_run.specs.Output.{IsExplained}
 use Rattle.chan_run.specs.declared.image_options.ImageOptions.{ImageOptions}
+use Rattle.ccw_core.specs.declared.ccw.TheConstants.{STORAGE_LIMIT}
 
 -- a verdict may come from wrong ends of the image: data goes past the end of storage, or the
 -- program that begins at this address has no command there
@@ -24,7 +25,7 @@ is_of_ends start v = false
 -- the note on the size of storage: it comes if the ends may be wrong and storage isn't the largest
 abbrev pub cure_note : Job → Verdict → List ℕ
 cure_note k v =
-    if is_of_ends k.start v && nat_lt (length (storage_of k)) (2 ^ 24)
+    if is_of_ends k.start v && nat_lt (length (storage_of k)) STORAGE_LIMIT
     then storage_note (length (storage_of k)) else []
 
 -- this explains the verdict on an open job, with the note on the size of storage, and further

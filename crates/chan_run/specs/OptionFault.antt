@@ -4,7 +4,7 @@ use Rattle.chan_args.specs.declared.image_words.ImageOption.{ImageOption}
 use Rattle.chan_args.specs.declared.image_words.ImageOption.TheVariants as options
 use Rattle.chan_args.specs.declared.image_words.GrantFault.{GrantFault}
 use Rattle.chan_args.specs.declared.image_words.GrantFault.TheVariants as grants
-use Rattle.chan_run.specs.Bases.{both_bases, meant}
+use Rattle.chan_run.specs.Bases.{both_bases, decimal_meant}
 use Rattle.chan_run.specs.ExtraWord.{IsRephrased, IsWithoutTip}
 use Rattle.chan_run.specs.declared.image_options.OptionFault.{OptionFault}
 use Rattle.chan_run.specs.declared.option_fault.TheConstants as texts
@@ -35,15 +35,15 @@ pub record IsFaultText (fault : OptionFault) (said : List ℕ) : Type 0 where
   pub front : List ℕ
   pub end : List ℕ
   pub read : (front ≡ []) ↔ (both_bases fault.option fault.text.now ≡ None)
-  pub meant : (end ≡ []) ↔ (meant fault.option fault.text.now ≡ None)
+  pub decimal_meant : (end ≡ []) ↔ (decimal_meant fault.option fault.text.now ≡ None)
   pub is : said ≡ option_fault_text fault.option fault.text.now front fault.why.now end
 
 -- options don't say one job
 abbrev pub grants_fault_text : GrantFault → List ℕ
-grants_fault_text (grants.BesideLeast option) =
-    texts.BESIDE_LEAST.now ++ (usage_of option ++ (codes "'" ++ texts.MORE.now))
-grants_fault_text (grants.BesideOpen option) =
-    texts.BESIDE_OPEN.now ++ (usage_of option ++ (codes "'" ++ texts.MORE.now))
+grants_fault_text (grants.WithLeast option) =
+    texts.WITH_LEAST.now ++ (usage_of option ++ (codes "'" ++ texts.MORE.now))
+grants_fault_text (grants.WithOpen option) =
+    texts.WITH_OPEN.now ++ (usage_of option ++ (codes "'" ++ texts.MORE.now))
 grants_fault_text grants.NoExtent = texts.NO_EXTENT.now ++ texts.MORE.now
 
 -- the name of a file stands in place of a command

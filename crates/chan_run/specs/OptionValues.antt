@@ -1,14 +1,13 @@
 -- What the options say with which a deck is made of an image of storage.
-use Rattle.std.specs.Prelude.{◌≡◌, ◌∷◌, ◌++◌, ℕ, List, [], Option, Some, None}
-use Rattle.std.specs.Prelude.{Result, Ok, Err}
+use Rattle.std.specs.Prelude.{◌≡◌, ◌∷◌, ◌++◌, ℕ, List, [], Option, Some, None, Result, Ok, Err}
 use Rattle.std.specs.Borrow.{Bor}
 use Rattle.ccw_core.specs.declared.areas.Area.{Area}
 use Rattle.ckd_core.specs.declared.device.Device.{Device}
-use Rattle.chan_args.specs.declared.image_words.AskedJob.{AskedJob}
+use Rattle.chan_args.specs.declared.image_words.RequestedJob.{RequestedJob}
 use Rattle.chan_args.specs.declared.image_words.ImageOption.{ImageOption}
 use Rattle.chan_args.specs.declared.image_words.ImageOption.TheVariants as options
 use Rattle.chan_args.specs.declared.image_words.ImageWords.{ImageWords}
-use Rattle.chan_run.specs.Options.{Said, address_in, area_in, device_in, extent_in, limit_in}
+use Rattle.chan_run.specs.Options.{Parsed, address_in, area_in, device_in, extent_in, limit_in}
 use Rattle.chan_run.specs.Options.{mask_in, size_in}
 use Rattle.chan_run.specs.declared.image_options.ImageOptions.{ImageOptions}
 use Rattle.chan_run.specs.declared.image_options.OptionError.{OptionError}
@@ -25,34 +24,34 @@ abbrev pub ◌>>=◌ : {A B : Type 0} → Result A Fault → (A → Result B Fau
 (Err fault) >>= rest = Err fault
 
 -- what an option's text says; if the text isn't accepted, the option and the text with the cause
-abbrev pub named : {A : Type 0} → ImageOption → List ℕ → Said A → Result A Fault
-named option text (Ok x) = Ok x
-named option text (Err why) = Err (option, text, why)
+abbrev pub for_option : {A : Type 0} → ImageOption → List ℕ → Parsed A → Result A Fault
+for_option option text (Ok x) = Ok x
+for_option option text (Err why) = Err (option, text, why)
 
 -- an option's text, read in this way
-abbrev pub read : {A : Type 0} → (List ℕ → Said A) → ImageOption → List ℕ → Result A Fault
-read says option text = named option text (says text)
+abbrev pub read_option : {A : Type 0} → (List ℕ → Parsed A) → ImageOption → List ℕ → Result A Fault
+read_option says option text = for_option option text (says text)
 
 -- the same of an option that may be left out
-abbrev pub read_if : {A : Type 0} → (List ℕ → Said A) → ImageOption → Option (Bor (List ℕ))
+abbrev pub read_optional : {A : Type 0} → (List ℕ → Parsed A) → ImageOption → Option (Bor (List ℕ))
     → Result (Option A) Fault
-read_if says option None = Ok None
-read_if says option (Some text) = read says option text.now >>= (λ x. Ok (Some x))
+read_optional says option None = Ok None
+read_optional says option (Some text) = read_option says option text.now >>= (λ x. Ok (Some x))
 
 -- and of one that may be given again, after what earlier texts say
-abbrev pub read_each : {A : Type 0} → (List ℕ → Said A) → ImageOption → List A
+abbrev pub read_repeated : {A : Type 0} → (List ℕ → Parsed A) → ImageOption → List A
     → List (Bor (List ℕ)) → Result (List A) Fault
-read_each says option xs [] = Ok xs
-read_each says option xs (text ∷ texts) =
-    read says option text.now >>= (λ x. read_each says option (xs ++ x ∷ []) texts)
+read_repeated says option xs [] = Ok xs
+read_repeated says option xs (text ∷ texts) =
+    read_option says option text.now >>= (λ x. read_repeated says option (xs ++ x ∷ []) texts)
 
 -- the extents; if none is given, it is as if an empty text were
 abbrev pub extents_in : List (Bor (List ℕ)) → Result (List (ℕ × ℕ)) Fault
-extents_in [] = read extent_in options.Extent [] >>= (λ extent. Ok (extent ∷ []))
-extents_in (text ∷ texts) = read_each extent_in options.Extent [] (text ∷ texts)
+extents_in [] = read_option extent_in options.Extent [] >>= (λ extent. Ok (extent ∷ []))
+extents_in (text ∷ texts) = read_repeated extent_in options.Extent [] (text ∷ texts)
 
 -- what the options say
-pub record Asked : Type 0 where
+pub record OptionValues : Type 0 where
   pub device : Device
   pub mask : ℕ
   pub start : ℕ
@@ -62,22 +61,22 @@ pub record Asked : Type 0 where
   pub store : List Area
   pub at : ℕ
   pub size : Option ℕ
-  pub job : AskedJob
+  pub job : RequestedJob
 
 -- the options are read in the order of a deck's lines, and then the address of the image and the
 -- size of storage
-abbrev pub options_in : ImageWords → Result Asked Fault
+abbrev pub options_in : ImageWords → Result OptionValues Fault
 options_in w =
     do
-      device ← read device_in options.Device w.device.now
-      mask ← read mask_in options.Mask w.mask.now
-      start ← read address_in options.Start w.start.now
-      limit ← read_if limit_in options.Limit w.limit
+      device ← read_option device_in options.Device w.device.now
+      mask ← read_option mask_in options.Mask w.mask.now
+      start ← read_option address_in options.Start w.start.now
+      limit ← read_optional limit_in options.Limit w.limit
       extents ← extents_in w.extents.items
-      fetch ← read_each area_in options.Fetch [] w.fetch.items
-      store ← read_each area_in options.Store [] w.store.items
-      at ← read address_in options.At w.at.now
-      size ← read_if size_in options.Storage w.storage
+      fetch ← read_repeated area_in options.Fetch [] w.fetch.items
+      store ← read_repeated area_in options.Store [] w.store.items
+      at ← read_option address_in options.At w.at.now
+      size ← read_optional size_in options.Storage w.storage
       Ok (record {
         device = device;
         mask = mask;
@@ -92,8 +91,8 @@ options_in w =
       })
 
 -- the options have this as their value
-abbrev pub asked : ImageOptions → Asked
-asked o =
+abbrev pub option_values_of : ImageOptions → OptionValues
+option_values_of o =
     record {
       device = o.device;
       mask = o.mask;

@@ -12,23 +12,25 @@ use Rattle.ckd_core.specs.declared.device.Device.{Device}
 use Rattle.ckd_core.specs.declared.device.Device.TheVariants.{D2311, D2314}
 use Rattle.chan_deck.specs.Item.{device_digits}
 use Rattle.chan_run.specs.declared.options.TheConstants as texts
+use Rattle.ckd_core.specs.declared.device.TheConstants.{LAST_CYLINDER}
+use Rattle.ccw_core.specs.declared.ccw.TheConstants.{STORAGE_LIMIT}
 
 -- a value, or why there is none
-abbrev pub Said : Type 0 → Type 0
-Said A = Result A (List ℕ)
+abbrev pub Parsed : Type 0 → Type 0
+Parsed A = Result A (List ℕ)
 
 -- the same of an answer
-abbrev pub said : {A : Type 0} → Result A (Bor (List ℕ)) → Said A
-said (Ok x) = Ok x
-said (Err why) = Err why.now
+abbrev pub parsed : {A : Type 0} → Result A (Bor (List ℕ)) → Parsed A
+parsed (Ok x) = Ok x
+parsed (Err why) = Err why.now
 
 -- what a value that was found says, or else this
-abbrev pub judged_or : {A B : Type 0} → (A → Said B) → Said B → Option A → Said B
+abbrev pub judged_or : {A B : Type 0} → (A → Parsed B) → Parsed B → Option A → Parsed B
 judged_or judge none None = none
 judged_or judge none (Some x) = judge x
 
 -- or else what is accepted
-abbrev pub judged : {A B : Type 0} → (A → Said B) → List ℕ → Option A → Said B
+abbrev pub judged : {A B : Type 0} → (A → Parsed B) → List ℕ → Option A → Parsed B
 judged judge accepted = judged_or judge (Err accepted)
 
 -- one digit or more in a radix, and nothing else; of letters either case is a digit
@@ -73,66 +75,66 @@ abbrev pub cylinders_in : List ℕ → Option (ℕ × ℕ)
 cylinders_in = both_in cylinder_in 45
 
 -- a device, by its number
-abbrev pub device_in : List ℕ → Said Device
+abbrev pub device_in : List ℕ → Parsed Device
 device_in text =
     if bytes_eq text (device_digits D2311) then Ok D2311
     else if bytes_eq text (device_digits D2314) then Ok D2314 else Err texts.DEVICE_FORM.now
 
 -- a file mask
-abbrev pub mask_in : List ℕ → Said ℕ
+abbrev pub mask_in : List ℕ → Parsed ℕ
 mask_in text = judged (λ n.
     if nat_lt 255 n then Err texts.MASK_ABOVE.now
     else if is_mask n then Ok n else Err texts.MASK_BITS.now)
     texts.MASK_FORM.now (hexadecimal_in text)
 
 -- an address
-abbrev pub address_in : List ℕ → Said ℕ
-address_in text = judged (λ n. if nat_lt n (2 ^ 24) then Ok n else Err texts.ADDRESS_ABOVE.now)
+abbrev pub address_in : List ℕ → Parsed ℕ
+address_in text = judged (λ n. if nat_lt n STORAGE_LIMIT then Ok n else Err texts.ADDRESS_ABOVE.now)
     texts.ADDRESS_FORM.now (hexadecimal_in text)
 
 -- a number of bytes that storage may have
 abbrev pub IsSize : ℕ → Type 0
-IsSize n = (n ≤ 2 ^ 24) × (n % 8 ≡ 0)
+IsSize n = (n ≤ STORAGE_LIMIT) × (n % 8 ≡ 0)
 
 -- a size of storage
-abbrev pub size_in : List ℕ → Said ℕ
+abbrev pub size_in : List ℕ → Parsed ℕ
 size_in text = judged (λ n.
-    if nat_lt (2 ^ 24) n then Err texts.SIZE_ABOVE.now
+    if nat_lt STORAGE_LIMIT n then Err texts.SIZE_ABOVE.now
     else if n % 8 == 0 then Ok n else Err texts.SIZE_ODD.now)
     texts.SIZE_FORM.now (hexadecimal_in text)
 
 -- a limit on places
-abbrev pub limit_in : List ℕ → Said ℕ
+abbrev pub limit_in : List ℕ → Parsed ℕ
 limit_in text = judged (λ n.
     if n == 0 then Err texts.LIMIT_BELOW.now
     else if nat_lt 65536 n then Err texts.LIMIT_ABOVE.now else Ok n)
     texts.LIMIT_FORM.now (number_in 10 text)
 
 -- first and last cylinder of an extent, in order and on the device
-abbrev pub extent_in : List ℕ → Said (ℕ × ℕ)
+abbrev pub extent_in : List ℕ → Parsed (ℕ × ℕ)
 extent_in text = judged (λ e.
     if nat_lt e.1 e.0 then Err texts.EXTENT_BACKWARDS.now
-    else if nat_lt 202 e.1 then Err texts.EXTENT_ABOVE.now else Ok e)
+    else if nat_lt LAST_CYLINDER e.1 then Err texts.EXTENT_ABOVE.now else Ok e)
     texts.EXTENT_FORM.now (cylinders_in text)
 
 -- the area with this start and this length
-abbrev pub sized_area : ℕ × ℕ → Said Area
+abbrev pub sized_area : ℕ × ℕ → Parsed Area
 sized_area (start, len) =
-    if not (nat_lt start (2 ^ 24)) then Err texts.AREA_START_ABOVE.now
-    else if nat_lt len (2 ^ 24) then Ok (record { start = start; len = len })
+    if not (nat_lt start STORAGE_LIMIT) then Err texts.AREA_START_ABOVE.now
+    else if nat_lt len STORAGE_LIMIT then Ok (record { start = start; len = len })
     else Err texts.AREA_LENGTH_ABOVE.now
 
 -- the area with this first byte and this last; it isn't all of the largest storage
-abbrev pub area_between : ℕ × ℕ → Said Area
+abbrev pub area_between : ℕ × ℕ → Parsed Area
 area_between (first, last) =
     if nat_lt last first then Err texts.AREA_BACKWARDS.now
-    else if not (nat_lt last (2 ^ 24)) then Err texts.AREA_LAST_ABOVE.now
-    else if nat_lt (last - first + 1) (2 ^ 24)
+    else if not (nat_lt last STORAGE_LIMIT) then Err texts.AREA_LAST_ABOVE.now
+    else if nat_lt (last - first + 1) STORAGE_LIMIT
     then Ok (record { start = first; len = last - first + 1 })
     else Err texts.AREA_LONGEST.now
 
 -- an area: start and length with a plus between them, or first and last byte with a hyphen
-abbrev pub area_in : List ℕ → Said Area
+abbrev pub area_in : List ℕ → Parsed Area
 area_in text =
     judged_or sized_area (judged area_between texts.AREA_FORM.now (pair_in 45 text))
     (pair_in 43 text)

@@ -1,6 +1,5 @@
 -- The exit status of each outcome, and its line on standard error.
-use Rattle.std.specs.Prelude.{◌≡◌, ◌++◌, ◌∷◌, ℕ, true, List, []}
-use Rattle.std.specs.Prelude.{Option, Result, Ok, Err, codes}
+use Rattle.std.specs.Prelude.{◌≡◌, ◌++◌, ◌∷◌, ℕ, true, List, [], Option, Result, Ok, Err, codes}
 use Rattle.std.specs.Fmt.{decimal}
 use Rattle.ccw_core.specs.declared.watched.DeviceFault.{DeviceFault}
 use Rattle.chan_run.specs.declared.failure.Failure.TheVariants as failures
@@ -13,26 +12,26 @@ use Rattle.chan_run.specs.declared.one_ccw.ShowError.TheVariants as shows
 use Rattle.chan_run.specs.declared.outcome.Outcome.{Outcome}
 use Rattle.chan_run.specs.declared.outcome.Outcome.TheVariants.{Done, Denied, Refused}
 use Rattle.chan_run.specs.declared.outcome.Outcome.TheVariants.{NoJob, Unknown, Failed}
-use Rattle.chan_run.specs.Failure.{row_of_failure}
+use Rattle.chan_run.specs.Failure.{texts_of_failure}
 use Rattle.chan_run.specs.Terms.{word_of_cause}
 use Rattle.chan_run.specs.Name.{name_before}
 
 -- what each answer is, as an outcome
-abbrev pub shown : Result (Unit {0}) ShowError → Outcome
-shown (Ok _) = Done
-shown (Err shows.NotCcw) = Failed failures.NotCcw
-shown (Err shows.Memory) = Failed failures.OutOfMemory
-shown (Err shows.Write) = Failed failures.WriteFailed
+abbrev pub outcome_of_show : Result (Unit {0}) ShowError → Outcome
+outcome_of_show (Ok _) = Done
+outcome_of_show (Err shows.NotCcw) = Failed failures.NotCcw
+outcome_of_show (Err shows.Memory) = Failed failures.OutOfMemory
+outcome_of_show (Err shows.Write) = Failed failures.WriteFailed
 
-abbrev pub ran : Result Status RunError → Outcome
-ran (Ok statuses.Yes) = Done
-ran (Ok statuses.No) = Denied
-ran (Err runs.Read) = Failed failures.ReadFailed
-ran (Err runs.TooLong) = Failed failures.DeckTooLong
-ran (Err (runs.Deck line cause)) = Refused line cause
-ran (Err runs.TooManyPlaces) = Failed failures.TooManyPlaces
-ran (Err runs.Write) = Failed failures.WriteFailed
-ran (Err runs.Memory) = Failed failures.OutOfMemory
+abbrev pub outcome_of_run : Result Status RunError → Outcome
+outcome_of_run (Ok statuses.Yes) = Done
+outcome_of_run (Ok statuses.No) = Denied
+outcome_of_run (Err runs.Read) = Failed failures.ReadFailed
+outcome_of_run (Err runs.TooLong) = Failed failures.DeckTooLong
+outcome_of_run (Err (runs.Deck line cause)) = Refused line cause
+outcome_of_run (Err runs.TooManyPlaces) = Failed failures.TooManyPlaces
+outcome_of_run (Err runs.Write) = Failed failures.WriteFailed
+outcome_of_run (Err runs.Memory) = Failed failures.OutOfMemory
 
 -- a run over a deck ends so, if it doesn't fail to write
 abbrev pub IsRunEnd : Outcome → Type 0
@@ -51,17 +50,17 @@ IsImageEnd (Failed failures.ReadFailed) = ⊥
 IsImageEnd (Failed failures.WriteFailed) = ⊥
 IsImageEnd end = Unit {0}
 
-abbrev pub wrote : Result (Unit {0}) DeviceFault → Outcome
-wrote (Ok _) = Done
-wrote (Err fault) = Failed failures.WriteFailed
+abbrev pub outcome_of_write : Result (Unit {0}) DeviceFault → Outcome
+outcome_of_write (Ok _) = Done
+outcome_of_write (Err fault) = Failed failures.WriteFailed
 
 abbrev pub status_of : Outcome → ℕ
 status_of Done = 0
 status_of Denied = 1
 status_of (Refused line cause) = 2
-status_of (NoJob a r) = (row_of_failure failures.NoJobWillDo).status
-status_of (Unknown word) = (row_of_failure failures.NoSuchWord).status
-status_of (Failed failure) = (row_of_failure failure).status
+status_of (NoJob a r) = (texts_of_failure failures.NoJobWillDo).status
+status_of (Unknown word) = (texts_of_failure failures.NoSuchWord).status
+status_of (Failed failure) = (texts_of_failure failure).status
 
 -- all was done that was asked for, so that the output is flushed
 abbrev pub IsDone : Outcome → Type 0
@@ -80,7 +79,7 @@ line_over name (Unknown word) =
     ++ (word.now ++ codes ", and chanv explain lists all words\n")
 line_over name (Failed failure) =
     codes "chanv: "
-    ++ (name_before name (row_of_failure failure).on_input ++ (row_of_failure failure).line)
+    ++ (name_before name (texts_of_failure failure).on_input ++ (texts_of_failure failure).line)
 line_over name _ = []
 
 -- a write failed, so that nothing more can be written

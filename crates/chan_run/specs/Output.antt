@@ -8,8 +8,8 @@ use Rattle.chan_deck.specs.Explanation.{IsExplanationText, IsOffenceText}
 use Rattle.chan_deck.specs.Graph.{IsPictureOf}
 use Rattle.chan_deck.specs.Listing.{listing}
 use Rattle.chan_deck.specs.Needs.{in_six_digits, needs_text}
-use Rattle.chan_deck.specs.Parts.{storage_with, version_with}
-use Rattle.chan_deck.specs.Texts.{verdict_line}
+use Rattle.chan_deck.specs.PartsImage.{storage_with, version_with}
+use Rattle.chan_deck.specs.VerdictLine.{verdict_line}
 use Rattle.chan_walk.specs.declared.evidence.Evidence.{Evidence}
 use Rattle.chan_walk.specs.declared.job.Job.{Job}
 use Rattle.chan_walk.specs.declared.offence.Offence.{Offence}
@@ -24,13 +24,14 @@ use Rattle.chan_walk.specs.Verdict.{IsVerdict}
 use Rattle.chan_walk.specs.Job.{extents_of, fetch_of, storage_of, store_of}
 use Rattle.chan_walk.specs.OpenJob.{AreOfOneProgram, IsOpenJob}
 use Rattle.chan_walk.specs.Offence.{AreOffences, first_verdict}
-use Rattle.chan_needs.specs.Rows.{AreNeeds, Listed}
+use Rattle.chan_needs.specs.Listed.{AreNeeds, Listed}
 use Rattle.chan_args.specs.declared.action.Action.{Action}
 use Rattle.chan_args.specs.declared.action.Action.TheVariants as actions
 use Rattle.chan_args.specs.declared.action.Explained.{Explained}
 use Rattle.chan_args.specs.declared.action.Explained.TheVariants as tells
 use Rattle.chan_run.specs.Name.{heading_of, name_before, name_of}
 use Rattle.chan_run.specs.declared.name.Naming.{Naming}
+use Rattle.ckd_core.specs.Extents.{all_cylinders}
 
 -- the job is that of the deck, its limit on places with it
 pub record IsDeckJob (d : Image) (j : Job) : Type 0 where
@@ -52,21 +53,21 @@ pub record IsOfJob (t : List ℕ) (Holds : Job → Type 0) : Type 0 where
   pub holds : Holds job
 
 -- the causes that are told: those of all offences, or none
-abbrev pub AreTold : Explained → Job → List Offence → List Evidence → Type 0
-AreTold tells.All j os es = AllZip (IsCauseOf j) os es
-AreTold told j os es = es ≡ []
+abbrev pub AreExplainedCauses : Explained → Job → List Offence → List Evidence → Type 0
+AreExplainedCauses tells.All j os es = AllZip (IsCauseOf j) os es
+AreExplainedCauses told j os es = es ≡ []
 
 -- the offence that is asked about, if one is at the address
-abbrev pub offence_asked : List Offence → Explained → Option Offence
-offence_asked os (tells.At a) = offence_at a os
-offence_asked os told = None
+abbrev pub requested_offence : List Offence → Explained → Option Offence
+requested_offence os (tells.At a) = offence_at a os
+requested_offence os told = None
 
 -- these offences are explained: the first of them, beside the others, or the one that is asked
 -- about
 abbrev pub IsExplanation : Explained → Job → List Offence → Option Offence → List ℕ → Type 0
 IsExplanation told j os None text =
     (es : List Evidence) × (w : Witness) × IsWitnessOf j (first_verdict os) w
-    × AreTold told j os es × IsExplanationText j os es w text
+    × AreExplainedCauses told j os es × IsExplanationText j os es w text
 IsExplanation told j os (Some o) text =
     (w : Witness) × IsWitnessOf j (No o.place.address o.reason) w
     × IsOffenceText j (first_verdict os) w text
@@ -75,11 +76,11 @@ IsExplanation told j os (Some o) text =
 abbrev pub IsExplained : Explained → Job → Verdict → List ℕ → Type 0
 IsExplained told j v text =
     (os : List Offence) × AreOffences j os × (v ≡ first_verdict os)
-    × IsExplanation told j os (offence_asked os told) text
+    × IsExplanation told j os (requested_offence os told) text
 
 -- a deck, but for its job, which grants just what is needed; it has one extent or more
 abbrev pub extents_for : List (ℕ × ℕ) → List (ℕ × ℕ)
-extents_for [] = (0, 202) ∷ []
+extents_for [] = all_cylinders
 extents_for (run ∷ runs) = run ∷ runs
 
 abbrev pub granting_just : Image → Listed → Image
@@ -91,14 +92,14 @@ granting_just d n = record d {
 }
 
 -- a limit that isn't the usual one, which a deck has to say
-abbrev pub unusual : ℕ → Option ℕ
-unusual limit = if limit == usual_limit then None else Some limit
+abbrev pub unusual_limit : ℕ → Option ℕ
+unusual_limit limit = if limit == usual_limit then None else Some limit
 
 -- the deck of the job, with zeros behind its storage up to a multiple of 8
 abbrev pub deck_of_job : Job → Image
 deck_of_job j =
     record {
-      version = version_with (unusual j.limit);
+      version = version_with (unusual_limit j.limit);
       device = j.device;
       mask = j.mask;
       start = j.start;
@@ -132,16 +133,16 @@ IsNeeded deck j (No a r) text = IsExplained tells.First j (No a r) text
 -- reachable places or a wide one, whose rows tests hold, the explanation, a picture, or what is
 -- needed; before a verdict and its explanation stands the name of the input, where it has one, and
 -- over a listing and over what is needed that of one of several inputs
-abbrev pub IsAskedText : Naming → Action → Job → Verdict → List ℕ → Type 0
-IsAskedText n actions.Verify j v text = text ≡ name_before (name_of n) true ++ verdict_line v
-IsAskedText n (actions.List false) j v text =
+abbrev pub IsActionOutput : Naming → Action → Job → Verdict → List ℕ → Type 0
+IsActionOutput n actions.Verify j v text = text ≡ name_before (name_of n) true ++ verdict_line v
+IsActionOutput n (actions.List false) j v text =
     (ps : List Place) × AreReachable j ps × (text ≡ heading_of n ++ listing (storage_of j) ps v)
-IsAskedText n (actions.List true) j v text =
+IsActionOutput n (actions.List true) j v text =
     (rows : List ℕ) × (text ≡ heading_of n ++ (rows ++ verdict_line v))
-IsAskedText n (actions.Why told) j v text =
+IsActionOutput n (actions.Why told) j v text =
     (why : List ℕ) × IsExplained told j v why × (text ≡ name_before (name_of n) true ++ why)
-IsAskedText n actions.Graph j v text = IsPictureOf (name_of n) v text
-IsAskedText n (actions.Needs deck) j v text =
+IsActionOutput n actions.Graph j v text = IsPictureOf (name_of n) v text
+IsActionOutput n (actions.Needs deck) j v text =
     (needed : List ℕ) × IsNeeded deck j v needed × (text ≡ heading_of n ++ needed)
 
 -- nothing was written, where the writer tells what it holds

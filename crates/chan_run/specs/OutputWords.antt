@@ -12,37 +12,41 @@ use Rattle.chan_run.specs.declared.failure.Failure.TheVariants as failures
 use Rattle.chan_run.specs.declared.outcome.Outcome.{Outcome}
 use Rattle.chan_run.specs.declared.outcome.Outcome.TheVariants.{Done, Failed}
 
--- the texts of some rows that the code has at hand
-abbrev pub row_texts : List (Bor (List ℕ)) → List (List ℕ)
-row_texts = map (λ row. row.now)
+-- the texts of some definitions that the code has at hand
+abbrev pub definition_texts : List (Bor (List ℕ)) → List (List ℕ)
+definition_texts = map (λ definition. definition.now)
 
--- the rows of the table: each a word, a colon, a space and what the word means
+-- the definitions of the table: each a word, a colon, a space and what the word means
 abbrev pub output_words : List (List ℕ)
-output_words = map (λ row. row.now) words.OUTPUT_WORDS
+output_words = map (λ definition. definition.now) words.OUTPUT_WORDS
 
--- the row begins with the text, whatever the case of its letters, a colon and a space
-abbrev pub IsRowFor : List ℕ → List ℕ → Type 0
-IsRowFor text row =
-    (str_to_ascii_lowercase (take (length text) row) ≡ str_to_ascii_lowercase text)
-    × (starts_with nat_eq (drop (length text) row) (codes ": ") ≡ true)
+-- the definition begins with the text, whatever the case of its letters, a colon and a space
+abbrev pub IsDefinitionOf : List ℕ → List ℕ → Type 0
+IsDefinitionOf text definition =
+    (str_to_ascii_lowercase (take (length text) definition) ≡ str_to_ascii_lowercase text)
+    × (starts_with nat_eq (drop (length text) definition) (codes ": ") ≡ true)
 
--- of some rows this is the first whose word the text is
-abbrev pub IsFirstRow : List ℕ → List (List ℕ) → List ℕ → Type 0
-IsFirstRow text [] row = ⊥
-IsFirstRow text (first ∷ rows) row =
-    (IsRowFor text first × (row ≡ first)) ⊎ ((¬ IsRowFor text first) × IsFirstRow text rows row)
+-- of some definitions this is the first whose word the text is
+abbrev pub IsFirstDefinition : List ℕ → List (List ℕ) → List ℕ → Type 0
+IsFirstDefinition text [] definition = ⊥
+IsFirstDefinition text (first ∷ definitions) definition =
+    (IsDefinitionOf text first × (definition ≡ first))
+    ⊎ ((¬ IsDefinitionOf text first) × IsFirstDefinition text definitions definition)
 
--- the line of a row
-abbrev pub row_line : List ℕ → List ℕ
-row_line row = row ++ 10 ∷ []
+-- the line of a definition
+abbrev pub definition_line : List ℕ → List ℕ
+definition_line definition = definition ++ 10 ∷ []
 
-abbrev pub IsRowLine : List ℕ → List ℕ → Type 0
-IsRowLine row line = line ≡ row_line row
+abbrev pub IsDefinitionLine : List ℕ → List ℕ → Type 0
+IsDefinitionLine definition line = line ≡ definition_line definition
 
--- the lines of these rows were written, or where a write failed a prefix of those of the first
-abbrev pub AreRowsListed : List (List ℕ) → Option (List ℕ) → Option (List ℕ) → Outcome → Type 0
-AreRowsListed rows old new Done =
-    (text : List ℕ) × AreLines IsRowLine rows text × Appends old new text
-AreRowsListed rows old new (Failed failures.WriteFailed) =
-    (n : ℕ) × (text : List ℕ) × AreLines IsRowLine (take n rows) text × AppendsPrefix old new text
-AreRowsListed rows old new end = ⊥
+-- the lines of these definitions were written, or where a write failed a prefix of those of the
+-- first
+abbrev pub AreDefinitionsListed : List (List ℕ) → Option (List ℕ) → Option (List ℕ) → Outcome
+    → Type 0
+AreDefinitionsListed definitions old new Done =
+    (text : List ℕ) × AreLines IsDefinitionLine definitions text × Appends old new text
+AreDefinitionsListed definitions old new (Failed failures.WriteFailed) =
+    (n : ℕ) × (text : List ℕ) × AreLines IsDefinitionLine (take n definitions) text
+    × AppendsPrefix old new text
+AreDefinitionsListed definitions old new end = ⊥

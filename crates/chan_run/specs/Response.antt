@@ -18,7 +18,7 @@ use Rattle.chan_run.specs.Advice.{IsVerdictAdvice, is_advised, is_hinted}
 use Rattle.chan_run.specs.Input.{IsInput, IsReadFault}
 use Rattle.chan_run.specs.Name.{front_of, fronted, name_of}
 use Rattle.chan_run.specs.Outcome.{IsDone, line_over}
-use Rattle.chan_run.specs.Output.{IsAskedText, IsOfJob, Judges}
+use Rattle.chan_run.specs.Output.{IsActionOutput, IsOfJob, Judges}
 use Rattle.chan_run.specs.Texts.{WriterGot}
 use Rattle.chan_run.specs.declared.failure.Failure.{Failure}
 use Rattle.chan_run.specs.declared.failure.Failure.TheVariants as failures
@@ -49,7 +49,7 @@ pub record IsBareResponse (end : Outcome) (remark : List ℕ) (r : Response) : T
   pub note : r.note.now ≡ remark
 
 -- the same, but for notes, of which tests hold the texts
-pub record IsNotedResponse (end : Outcome) (remark : List ℕ) (r : Response) : Type 0 where
+pub record IsResponseWithoutOutput (end : Outcome) (remark : List ℕ) (r : Response) : Type 0 where
   pub outcome : r.outcome ≡ end
   pub output : r.output.items ≡ []
   pub note : r.note.now ≡ remark
@@ -65,7 +65,7 @@ pub record IsVerdictResponse (n : Naming) (a : Action) (j : Job) (r : Response) 
   pub verdict : Verdict
   pub is : IsAnswer j verdict
   pub outcome : r.outcome ≡ outcome_of verdict
-  pub output : IsAskedText n a j verdict r.output.items
+  pub output : IsActionOutput n a j verdict r.output.items
   pub advice :
       IsWantedAdvice n (is_advised a) (IsVerdictAdvice a j verdict) (advice_in r.advice)
   pub note : r.note.now ≡ []
@@ -126,13 +126,13 @@ advice_bytes name None = line_over name (Failed failures.OutOfMemory)
 advice_bytes name (Some text) = text
 
 -- the line of an answer, and what is said beside it
-abbrev pub said_of : Option (List ℕ) → Response → List ℕ
-said_of name r =
+abbrev pub error_text_of : Option (List ℕ) → Response → List ℕ
+error_text_of name r =
     line_over name r.outcome ++ (advice_bytes name (advice_in r.advice) ++ r.note.now)
 
 -- the line of a failed write, with only the note beside it
-abbrev pub said_unwritten : Option (List ℕ) → Response → List ℕ
-said_unwritten name r = line_over name (Failed failures.WriteFailed) ++ r.note.now
+abbrev pub error_text_unwritten : Option (List ℕ) → Response → List ℕ
+error_text_unwritten name r = line_over name (Failed failures.WriteFailed) ++ r.note.now
 
 -- the first writer got the output of an answer, and the second what is said of it; or the first
 -- failed, and the second got the line of that
@@ -140,20 +140,20 @@ abbrev pub IsDelivered : Option (List ℕ) → Response → Option (List ℕ) �
     → Option (List ℕ) → Option (List ℕ) → Bool → Outcome → Type 0
 IsDelivered name r old new old_errors new_errors failed end =
     IsOutputWritten r old new end
-    × (((end ≡ r.outcome) × WriterGot (said_of name r) old_errors new_errors failed)
+    × (((end ≡ r.outcome) × WriterGot (error_text_of name r) old_errors new_errors failed)
     ⊎ ((end ≡ Failed failures.WriteFailed)
-    × WriterGot (said_unwritten name r) old_errors new_errors failed))
+    × WriterGot (error_text_unwritten name r) old_errors new_errors failed))
 
 -- what a run over an input that is named so comes to: a writer got the output of its answer
-abbrev pub IsRunAnswer : Naming → Action → Option (List ℕ) → Option (List ℕ)
+abbrev pub IsRunOutput : Naming → Action → Option (List ℕ) → Option (List ℕ)
     → Option (List ℕ) → Option (List ℕ) → Outcome → Type 0
-IsRunAnswer n a old_in new_in old new end =
+IsRunOutput n a old_in new_in old new end =
     (r : Response) × IsInputResponse n a old_in new_in r × IsOutputWritten r old new end
 
 -- what an input comes to that is named so: its answer was delivered
-abbrev pub IsAnswered : Naming → Action → Option (List ℕ) → Option (List ℕ)
+abbrev pub IsInputDelivered : Naming → Action → Option (List ℕ) → Option (List ℕ)
     → Option (List ℕ) → Option (List ℕ) → Option (List ℕ) → Option (List ℕ) → Bool → Outcome
     → Type 0
-IsAnswered n a old_in new_in old new old_errors new_errors failed end =
+IsInputDelivered n a old_in new_in old new old_errors new_errors failed end =
     (r : Response) × IsInputResponse n a old_in new_in r
     × IsDelivered (name_of n) r old new old_errors new_errors failed end

@@ -5,7 +5,7 @@ use Rattle.std.specs.Str.{str_to_ascii_lowercase}
 use Rattle.chan_deck.specs.declared.cause.Cause.{Cause}
 use Rattle.chan_deck.specs.declared.cause.Cause.TheVariants as causes
 use Rattle.chan_walk.specs.Reason.{word_of}
-use Rattle.chan_run.specs.Failure.{row_of_failure}
+use Rattle.chan_run.specs.Failure.{texts_of_failure}
 use Rattle.chan_run.specs.declared.terms.Term.{Term}
 use Rattle.chan_run.specs.declared.terms.Term.TheVariants as terms
 
@@ -27,7 +27,7 @@ word_of_cause causes.Limit = codes "limit"
 abbrev pub word_of_term : Term → List ℕ
 word_of_term (terms.Reason reason) = word_of reason
 word_of_term (terms.Cause cause) = word_of_cause cause
-word_of_term (terms.Failure failure) = (row_of_failure failure).word
+word_of_term (terms.Failure failure) = (texts_of_failure failure).word
 
 -- the text is the term's word, whatever the case of its letters
 abbrev pub IsWordOf : List ℕ → Term → Type 0

@@ -6,14 +6,14 @@ ghost use Rattle.chan_args.specs.Actions.{is_why};
 ghost use Rattle.chan_walk.specs.JobSurvey.{IsSurvey};
 ghost use Rattle.chan_walk.specs.Offence.{first_verdict};
 ghost use Rattle.chan_walk.specs.declared.verdict.Verdict.TheVariants.{No};
-ghost use Rattle.chan_run.specs.Advice.{AreNotesSaid, IsAbsentNote, IsExchangeNote, IsExchangeSaid};
-ghost use Rattle.chan_run.specs.Advice.{IsSaidOf, IsVerdictAdvice, IsWhyAdvice, is_advised};
-ghost use Rattle.chan_run.specs.Advice.{is_chained_over, is_hinted};
+ghost use Rattle.chan_run.specs.Advice.{AreJobNotes, IsAbsentNote, IsExchangeNote};
+ghost use Rattle.chan_run.specs.Advice.{IsExchangeAdvice, IsJobAdvice, IsVerdictAdvice};
+ghost use Rattle.chan_run.specs.Advice.{IsWhyAdvice, is_advised, is_chained_over, is_hinted};
 ghost use Rattle.chan_run.specs.Advice.{no_job_note};
 ghost use Rattle.chan_run.specs.Name.{front_of, fronted};
 ghost use Rattle.chan_run.specs.Response.{IsWantedAdvice, advice_in};
 
-use crate::explained_offence::offence_told;
+use crate::explained_offence::explained_offence;
 use crate::help::{help_text, unseen_note};
 use crate::name::{Naming, named};
 use chan_args::{Action, Explained};
@@ -27,7 +27,7 @@ const NO_JOB: &str = "note: no job will do: the no holds even if the job grants 
     chanv verify may name another CCW, because the deck's job grants less\n";
 
 /// The hint on a line that is refused, for `Why`, for `Graph` and for any input with a name.
-pub(crate) fn hint_beside(
+pub(crate) fn refusal_advice(
     alloc: Global,
     naming: Naming<'_>,
     action: Action,
@@ -53,7 +53,7 @@ fn is_hinted(action: Action) -> bool
 }
 
 /// For `Why`, what the limit on places is, and how it may be raised.
-pub(crate) fn limit_beside(
+pub(crate) fn limit_advice(
     alloc: Global,
     naming: Naming<'_>,
     action: Action,
@@ -70,7 +70,7 @@ pub(crate) fn limit_beside(
 }
 
 /// For `Why` and `Needs`, the advice on a job that was surveyed.
-pub(crate) fn notes_beside(
+pub(crate) fn action_advice(
     alloc: Global,
     naming: Naming<'_>,
     action: Action,
@@ -133,7 +133,7 @@ fn push_front(text: &mut Vec<u8>, naming: Naming<'_>, begins: bool) -> Result<()
 /// The notes on a job that was surveyed.
 fn notes_on(alloc: Global, job: &Job, survey: &Survey) -> Result<Vec<u8>, AllocError>
     requires { IsSurvey job.now survey.now }
-    ensures { IfOk result (λ text. AreNotesSaid job.now text.items) }
+    ensures { IfOk result (λ text. AreJobNotes job.now text.items) }
 {
     let notes = notes_from(alloc, job, survey)?;
     let hang = hang_from(alloc, survey)?;
@@ -154,14 +154,14 @@ fn why_advice(
         (first_verdict survey.now.offences) text.items) }
 {
     let mut text = absent_note(alloc, explained, survey)?;
-    let said = said_of(alloc, named, explained, job, survey)?;
+    let said = job_advice(alloc, named, explained, job, survey)?;
     text.extend_from_slice(said.as_slice())?;
     Ok(text)
 }
 
 /// The notes on a yes; on a no, the note that the areas seem exchanged, if they do, and how to cure
 /// it.
-pub(crate) fn said_of(
+pub(crate) fn job_advice(
     alloc: Global,
     named: bool,
     explained: Explained,
@@ -169,7 +169,7 @@ pub(crate) fn said_of(
     survey: &Survey,
 ) -> Result<Vec<u8>, AllocError>
     requires { IsSurvey job.now survey.now }
-    ensures { IfOk result (λ text. IsSaidOf job.now (first_verdict survey.now.offences)
+    ensures { IfOk result (λ text. IsJobAdvice job.now (first_verdict survey.now.offences)
         text.items) }
 {
     match survey.verdict() {
@@ -206,7 +206,7 @@ fn cure_of(
     requires { IsSurvey job.now survey.now }
 {
     let mut text = String::from_str(alloc, unseen_note(survey))?;
-    match offence_told(survey, explained) {
+    match explained_offence(survey, explained) {
         Some(offence) if named => {
             let help = help_text(alloc, job, survey, offence)?;
             text.push_str(help.as_str())?;
@@ -226,7 +226,7 @@ fn exchange_on(
     reason: Reason,
 ) -> Result<Vec<u8>, AllocError>
     ensures { IfOk result (λ text.
-        IsExchangeSaid job.now offences.now (No address reason) text.items) }
+        IsExchangeAdvice job.now offences.now (No address reason) text.items) }
 {
     if is_chained_over(offences) {
         return Ok(Vec::new(alloc));

@@ -3,8 +3,9 @@
 ghost use Rattle.std.specs.Prelude.{◌≡◌, ◌↔◌, ◌++◌, [], None};
 ghost use Rattle.chan_run.specs.Bases as bases;
 
-use crate::options::{PAST_ADDRESSES, number_of};
+use crate::options::number_of;
 use arrayvec::ArrayString;
+use ccw_core::STORAGE_LIMIT;
 use chan_args::ImageOption;
 use ckd_core::FileMask;
 use std::fmt;
@@ -70,15 +71,15 @@ fn is_accepted(option: ImageOption, number: u32) -> bool
 {
     match option {
         ImageOption::Mask => number < 0x100 && FileMask::new(number as u8).is_some(),
-        ImageOption::Start | ImageOption::At | ImageOption::Of => number < PAST_ADDRESSES,
-        ImageOption::Storage => number <= PAST_ADDRESSES && number % 8 == 0,
+        ImageOption::Start | ImageOption::At | ImageOption::Of => number < STORAGE_LIMIT,
+        ImageOption::Storage => number <= STORAGE_LIMIT && number % 8 == 0,
         _ => false,
     }
 }
 
 /// The number that decimal digits write for an option, if it would accept that one.
-fn meant(option: ImageOption, text: &str) -> Option<u32>
-    ensures { result ≡ bases.meant option text.now }
+fn decimal_meant(option: ImageOption, text: &str) -> Option<u32>
+    ensures { result ≡ bases.decimal_meant option text.now }
 {
     let (_, decimal) = both_bases(option, text)?;
     if is_accepted(option, decimal) {
@@ -115,10 +116,10 @@ pub(crate) fn reading(option: ImageOption, text: &str) -> (&str, &str, ArrayStri
 
 /// How to write the number that was meant, if the option would accept it. Tests hold the wording.
 pub(crate) fn correction<'a>(option: ImageOption, text: &str) -> (&'a str, ArrayString<64>)
-    ensures { (result.0.now ++ result.1.bytes ≡ []) ↔ (bases.meant option text.now ≡ None) }
+    ensures { (result.0.now ++ result.1.bytes ≡ []) ↔ (bases.decimal_meant option text.now ≡ None) }
 {
     let mut how = ArrayString::new();
-    let Some(number) = meant(option, text) else {
+    let Some(number) = decimal_meant(option, text) else {
         return ("", how);
     };
     let grouped = Grouped(number);

@@ -1,7 +1,7 @@
 //! Where an image of storage begins, as its search loops tell, and whether it is text. Tests hold
 //! the texts.
 
-use ccw_core::Ccw;
+use ccw_core::{Ccw, STORAGE_LIMIT};
 use ckd_core::{Kind, lookup};
 use std::alloc::{AllocError, Global};
 use std::fmt::Write as _;
@@ -50,7 +50,7 @@ fn beginnings(alloc: Global, image: &[u8]) -> Result<Vec<u32>, AllocError> {
     for offset in 0..image.len() {
         if let Some(target) = loop_target(&image[offset..]) {
             if let Some(begins) = u64::from(target).checked_sub(offset as u64) {
-                if begins + image.len() as u64 <= 0x1000000 {
+                if begins + image.len() as u64 <= u64::from(STORAGE_LIMIT) {
                     found.push(begins as u32)?;
                 }
             }

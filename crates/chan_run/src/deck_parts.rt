@@ -1,7 +1,7 @@
 //! The parts of the deck that options and an image make.
 
 ghost use Rattle.std.specs.Prelude.{◌≡◌};
-ghost use Rattle.chan_deck.specs.Parts.{HasShortAddresses, image_of_parts};
+ghost use Rattle.chan_deck.specs.PartsImage.{HasShortAddresses, image_of_parts};
 ghost use Rattle.chan_run.specs.Image.{deck_of};
 
 use crate::image_options::ImageOptions;

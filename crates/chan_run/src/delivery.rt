@@ -5,7 +5,7 @@ ghost use Rattle.std.specs.Io.KnownBytes.{Appends};
 ghost use Rattle.ccw_core.specs.Written.{AppendsPrefix};
 ghost use Rattle.chan_run.specs.Name.{name_in};
 ghost use Rattle.chan_run.specs.Outcome.{IsDone, IsWriteFailure, line_over};
-ghost use Rattle.chan_run.specs.Response.{IsDelivered, IsOutputWritten, said_of};
+ghost use Rattle.chan_run.specs.Response.{IsDelivered, IsOutputWritten, error_text_of};
 ghost use Rattle.chan_run.specs.Texts.{WriterGot};
 ghost use Rattle.chan_run.specs.declared.failure.Failure.TheVariants as failures;
 ghost use Rattle.chan_run.specs.declared.outcome.Outcome.TheVariants.{Failed};
@@ -88,7 +88,7 @@ fn tell<E: Write>(
     errors: &mut Watched<E>,
 ) -> Result<(), DeviceFault>
     requires { errors.old.failed ≡ false }
-    ensures said { WriterGot (said_of (name_in name.entry) response.now)
+    ensures said { WriterGot (error_text_of (name_in name.entry) response.now)
         (E.contents errors.old.device) (E.contents errors.new.device) errors.new.failed }
     ensures fault { IsErr result ↔ (errors.new.failed ≡ true) }
 {

@@ -1,11 +1,11 @@
 //! The lines on standard error in place of an answer.
 
 ghost use Rattle.std.specs.Prelude.{◌≡◌};
-ghost use Rattle.chan_run.specs.Failure as table;
+ghost use Rattle.chan_run.specs.Failure.{failure_texts, texts_of_failure};
 
 /// A failure's word, what it is in a few words, its line, what it means, the exit status, and
 /// whether the line names the input.
-pub(crate) type Row = (
+type FailureTexts = (
     &'static str,
     &'static str,
     &'static str,
@@ -14,7 +14,7 @@ pub(crate) type Row = (
     bool,
 );
 
-const CANNOT_OPEN: Row = (
+const CANNOT_OPEN: FailureTexts = (
     "cannot-open",
     "a FILE that can't be opened",
     "cannot open\n",
@@ -28,7 +28,7 @@ or hand it to standard input.
     true,
 );
 
-const NO_SUCH_FILE: Row = (
+const NO_SUCH_FILE: FailureTexts = (
     "no-such-file",
     "a FILE that doesn't exist",
     "cannot open: no such file\n",
@@ -40,7 +40,7 @@ Correct the name, or the folder where you run chanv.
     true,
 );
 
-const PERMISSION_DENIED: Row = (
+const PERMISSION_DENIED: FailureTexts = (
     "permission-denied",
     "a FILE that you may not read",
     "cannot open: permission denied\n",
@@ -52,7 +52,7 @@ Correct the permissions, or hand the FILE to standard input.
     true,
 );
 
-const IS_A_FOLDER: Row = (
+const IS_A_FOLDER: FailureTexts = (
     "is-a-folder",
     "a FILE that is a folder",
     "read failed: it is a folder\n",
@@ -64,7 +64,7 @@ Name the files in it.
     true,
 );
 
-const READ_FAILED: Row = (
+const READ_FAILED: FailureTexts = (
     "read-failed",
     "an input that can't be read to its end",
     "read failed\n",
@@ -76,7 +76,7 @@ Name a file, or see that the input can be read to its end.
     true,
 );
 
-const DECK_TOO_LONG: Row = (
+const DECK_TOO_LONG: FailureTexts = (
     "deck-too-long",
     "a text longer than a deck may be",
     "deck too long\n",
@@ -89,7 +89,7 @@ storage isn't a deck: `chanv deck` turns it into a deck.
     true,
 );
 
-const IMAGE_TOO_LONG: Row = (
+const IMAGE_TOO_LONG: FailureTexts = (
     "image-too-long",
     "an image longer than storage may be",
     "image too long\n",
@@ -102,7 +102,7 @@ Cut the image down to what the program needs, or lower its address.
     true,
 );
 
-const IMAGE_PAST_STORAGE: Row = (
+const IMAGE_PAST_STORAGE: FailureTexts = (
     "image-past-storage",
     "an image that ends past the size of storage",
     "image past storage\n",
@@ -115,7 +115,7 @@ storage ends with the image.
     true,
 );
 
-const TOO_MANY_PLACES: Row = (
+const TOO_MANY_PLACES: FailureTexts = (
     "too-many-places",
     "more places reachable than the limit",
     "too many places\n",
@@ -130,7 +130,7 @@ through storage reaches one every 8 bytes.
     true,
 );
 
-const NO_JOB_WILL_DO: Row = (
+const NO_JOB_WILL_DO: FailureTexts = (
     "no-job-will-do",
     "a program for which no job will do",
     "no job will do\n",
@@ -146,7 +146,7 @@ reason.
     true,
 );
 
-const WRITE_FAILED: Row = (
+const WRITE_FAILED: FailureTexts = (
     "write-failed",
     "an output that can't be written",
     "write failed\n",
@@ -159,7 +159,7 @@ Correct the output, and run the command again.
     false,
 );
 
-const OUT_OF_MEMORY: Row = (
+const OUT_OF_MEMORY: FailureTexts = (
     "out-of-memory",
     "an allocation that was refused",
     "out of memory\n",
@@ -172,7 +172,7 @@ deck and of its storage.
     true,
 );
 
-const NOT_A_CCW: Row = (
+const NOT_A_CCW: FailureTexts = (
     "not-a-ccw",
     "a word that isn't a CCW's sixteen digits",
     "not a CCW\n",
@@ -184,7 +184,7 @@ Write a CCW's eight bytes as two digits each, without spaces.
     false,
 );
 
-const NO_SUCH_WORD: Row = (
+const NO_SUCH_WORD: FailureTexts = (
     "no-such-word",
     "a word that chanv doesn't know",
     "no such word; chanv explain lists all words\n",
@@ -229,10 +229,50 @@ pub enum Failure {
     NoSuchWord,
 }
 
-/// The row of a failure. Tests hold the two texts that explain it.
-pub(crate) fn row(failure: Failure) -> Row
-    ensures { table.failure_row result.0.now result.2.now result.4 result.5 ≡ table.row_of_failure
-        failure }
+impl Failure {
+    /// The failure's word.
+    pub(crate) fn word(self) -> &'static str
+        ensures { result.now ≡ (texts_of_failure self).word }
+    {
+        texts_of(self).0
+    }
+
+    /// What the failure is, in a few words, which tests hold.
+    pub(crate) fn brief(self) -> &'static str {
+        texts_of(self).1
+    }
+
+    /// What the failure's line says.
+    pub(crate) fn line<'a>(self) -> &'a str
+        ensures { result.now ≡ (texts_of_failure self).line }
+    {
+        texts_of(self).2
+    }
+
+    /// What the failure means, in lines that tests hold.
+    pub(crate) fn meaning(self) -> &'static str {
+        texts_of(self).3
+    }
+
+    /// The exit status.
+    pub(crate) fn status(self) -> u8
+        ensures { result ≡ (texts_of_failure self).status }
+    {
+        texts_of(self).4
+    }
+
+    /// Whether the line is on the input, so that it names it.
+    pub(crate) fn is_on_input(self) -> bool
+        ensures { result ≡ (texts_of_failure self).on_input }
+    {
+        texts_of(self).5
+    }
+}
+
+/// The texts of a failure, its status, and whether its line is on the input.
+fn texts_of(failure: Failure) -> FailureTexts
+    ensures { failure_texts result.0.now result.2.now result.4 result.5
+        ≡ texts_of_failure failure }
 {
     match failure {
         Failure::CannotOpen => CANNOT_OPEN,

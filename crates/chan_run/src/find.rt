@@ -3,13 +3,14 @@
 ghost use Rattle.std.specs.Prelude.{◌≡◌, ◌↔◌, ◌+◌, ◌≤◌, ◌^◌, false, true, length, IfOk, List, ℕ};
 ghost use Rattle.std.specs.Prelude.{string_bytes};
 ghost use Rattle.ccw_core.specs.Held.{bytes_held};
-ghost use Rattle.chan_deck.specs.Parts.{storage_with};
-ghost use Rattle.chan_run.specs.Find.{IsFindAnswered, IsFindNote, IsFindResponse, IsFoundAnswer};
+ghost use Rattle.chan_deck.specs.PartsImage.{storage_with};
+ghost use Rattle.chan_run.specs.Find.{IsFindDelivered, IsFindNote, IsFindResponse, IsSearchOutput};
 ghost use Rattle.chan_run.specs.Find.{IsLineAt};
 ghost use Rattle.chan_run.specs.Name.{name_in};
 ghost use Rattle.chan_run.specs.Outcome.{IsDone, IsWriteFailure};
 ghost use Rattle.chan_run.specs.declared.failure.Failure.TheVariants as failures;
 ghost use Rattle.chan_run.specs.declared.outcome.Outcome.TheVariants.{Failed};
+ghost use Rattle.ccw_core.specs.declared.ccw.TheConstants.{STORAGE_LIMIT};
 
 use crate::beginning::image_notes;
 use crate::delivery::deliver;
@@ -35,7 +36,7 @@ use std::io::{Read, Write};
 /// Of the options it uses the device, the limit, and the address and size for the image. Each line
 /// is written with one write, as soon as its verdict is known, and at the end the output is
 /// flushed. After a failed write a prefix of the lines was written, and after a refused allocation
-/// the lines of some first programs. The errors of the input are those of `answer_image`.
+/// the lines of some first programs. The errors of the input are those of `make_deck`.
 ///
 /// The second writer gets the outcome's line, as `report` writes it, the notes on an image that is
 /// text or seems to begin elsewhere, and then a note if the image is a deck, or if all went well
@@ -51,7 +52,7 @@ pub fn find_programs<R: Read, W: Write, E: Write>(
     requires reader { from.old.failed ≡ false }
     requires writer { to.old.failed ≡ false }
     requires errors { errors.old.failed ≡ false }
-    ensures answer { IsFindAnswered (name_in name.entry) options.now
+    ensures answer { IsFindDelivered (name_in name.entry) options.now
         (R.remaining from.old.device) (R.remaining from.new.device)
         (W.contents to.old.device) (W.contents to.new.device)
         (E.contents errors.old.device) (E.contents errors.new.device) errors.new.failed result }
@@ -108,9 +109,9 @@ fn write_programs<W: Write>(
     image: &[u8],
     to: &mut Watched<W>,
 ) -> (Outcome, &'static str)
-    requires short { options.now.at + length image.now ≤ 2 ^ 24 }
+    requires short { options.now.at + length image.now ≤ STORAGE_LIMIT }
     requires writer { to.old.failed ≡ false }
-    ensures answer { IsFoundAnswer options.now image.now
+    ensures answer { IsSearchOutput options.now image.now
         (W.contents to.old.device) (W.contents to.new.device) result.0 }
     ensures note { IsFindNote options.now image.now result.0 result.1.now }
     ensures read { result.0 ≡ Failed failures.ReadFailed → ⊥ }

@@ -6,6 +6,7 @@ ghost use Rattle.chan_run.specs.Image.{IsDeckText, IsNoDeck, IsNoImage, IsRoom};
 ghost use Rattle.chan_run.specs.Image.{IsWholeImage, deck_of, filled};
 ghost use Rattle.chan_deck.specs.Image.{Spells};
 ghost use Rattle.chan_run.specs.declared.failure.Failure.TheVariants as failures;
+ghost use Rattle.ccw_core.specs.declared.ccw.TheConstants.{STORAGE_LIMIT};
 
 use crate::deck_parts::deck_parts;
 use crate::failure::Failure;
@@ -13,10 +14,9 @@ use crate::image_options::ImageOptions;
 use crate::input::read_input;
 use crate::least_job::least_text;
 use crate::open_deck::open_text;
-use crate::options::PAST_ADDRESSES;
 use crate::outcome::Outcome;
-use ccw_core::Watched;
-use chan_args::AskedJob;
+use ccw_core::{STORAGE_LIMIT, Watched};
+use chan_args::RequestedJob;
 use chan_deck::parts_text;
 use std::alloc::{AllocError, Global};
 use std::io::Read;
@@ -43,7 +43,8 @@ pub(crate) fn read_image<R: Read>(
     requires reader { from.old.failed ≡ false }
     ensures ok { IfOk result (λ whole. IsWholeImage options.now
         (R.remaining from.old.device) (R.remaining from.new.device) whole.bytes.items) }
-    ensures short { IfOk result (λ whole. options.now.at + length whole.bytes.items ≤ 2 ^ 24) }
+    ensures short { IfOk result
+        (λ whole. options.now.at + length whole.bytes.items ≤ STORAGE_LIMIT) }
     ensures err { IfErr result (IsNoImage options.now
         (R.remaining from.old.device) (R.remaining from.new.device)) }
     ensures read { IsErrOf result failures.ReadFailed ↔ (from.new.failed ≡ true) }
@@ -66,11 +67,11 @@ pub(crate) fn read_image<R: Read>(
 /// How many bytes there is room for from the image's address on, if it doesn't lie past storage.
 fn room_for(options: &ImageOptions) -> Option<usize>
     ensures some { IfSome result (IsRoom options.now) }
-    ensures none { result ≡ None → unwrap_or options.now.size (2 ^ 24) < options.now.at }
+    ensures none { result ≡ None → unwrap_or options.now.size STORAGE_LIMIT < options.now.at }
 {
     let end = match options.size {
         Some(size) => size as usize,
-        None => PAST_ADDRESSES as usize,
+        None => STORAGE_LIMIT as usize,
     };
     end.checked_sub(options.at as usize)
 }
@@ -105,20 +106,20 @@ pub(crate) fn deck_text(
     options: &ImageOptions,
     image: &[u8],
 ) -> Result<Vec<u8>, Outcome>
-    requires { options.now.at + length image.now ≤ 2 ^ 24 }
+    requires { options.now.at + length image.now ≤ STORAGE_LIMIT }
     ensures text { IfOk result (λ text. IsDeckText options.now image.now text.items) }
     ensures none { IfErr result (IsNoDeck options.now image.now) }
 {
     match options.job {
-        AskedJob::Named => Ok(named_text(alloc, options, image)?),
-        AskedJob::Least => least_text(alloc, options, image),
-        AskedJob::Open => Ok(open_text(alloc, options, image)?),
+        RequestedJob::Named => Ok(named_text(alloc, options, image)?),
+        RequestedJob::Least => least_text(alloc, options, image),
+        RequestedJob::Open => Ok(open_text(alloc, options, image)?),
     }
 }
 
 /// The text of the deck that an image makes with the job that the options say.
 fn named_text(alloc: Global, options: &ImageOptions, image: &[u8]) -> Result<Vec<u8>, AllocError>
-    requires { options.now.at + length image.now ≤ 2 ^ 24 }
+    requires { options.now.at + length image.now ≤ STORAGE_LIMIT }
     ensures { IfOk result (λ text. Spells text.items (deck_of options.now image.now)) }
 {
     parts_text(alloc, &deck_parts(options, image))

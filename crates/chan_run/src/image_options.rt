@@ -6,7 +6,7 @@ ghost use Rattle.std.specs.Prelude.{unwrap_or};
 ghost use Rattle.chan_run.specs.Options.{IsSize};
 
 use ccw_core::Area;
-use chan_args::{AskedJob, ImageOption};
+use chan_args::{ImageOption, RequestedJob};
 use chan_walk::Limit;
 use ckd_core::{Device, Extents, FileMask};
 
@@ -34,7 +34,7 @@ pub struct ImageOptions {
     /// image needs.
     pub size: Option<u32>,
     /// The job of the deck. If it isn't the named one, mask, extents and areas don't matter.
-    pub job: AskedJob,
+    pub job: RequestedJob,
     pub ghost start_is_address: { IsAddress start },
     pub ghost fetch_are_areas: { All IsArea fetch.items },
     pub ghost store_are_areas: { All IsArea store.items },

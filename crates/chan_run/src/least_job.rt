@@ -1,23 +1,21 @@
 //! The deck of an image of storage with the least job of its program.
 
-ghost use Rattle.std.specs.Prelude.{◌≡◌, ◌+◌, ◌≤◌, ◌^◌, List, ℕ, length, IfErr, IfOk, IfSome};
-ghost use Rattle.std.specs.Prelude.{OnOk};
+ghost use Rattle.std.specs.Prelude.{◌≡◌, ◌+◌, ◌≤◌, ◌^◌, List, ℕ, length, IfErr, IfOk, IfSome, OnOk};
 ghost use Rattle.std.specs.List.{AllByRecursion};
 ghost use Rattle.ckd_core.specs.Extents.{IsExtent};
-ghost use Rattle.chan_deck.specs.Parts.{storage_with};
+ghost use Rattle.chan_deck.specs.PartsImage.{storage_with, image_of_parts};
 ghost use Rattle.ccw_core.specs.Held.{bytes_held};
 ghost use Rattle.chan_walk.specs.OpenJob.{AreOfOneProgram};
-ghost use Rattle.chan_needs.specs.Rows.{AreNeeds, listed};
+ghost use Rattle.chan_needs.specs.Listed.{AreNeeds, listed};
 ghost use Rattle.chan_walk.specs.declared.job.Job.{Job};
-ghost use Rattle.chan_args.specs.declared.image_words.AskedJob.TheVariants as jobs;
-ghost use Rattle.chan_run.specs.Image.{HasNoNeeds, IsDeckText, IsNoDeck, IsProgramAt};
-ghost use Rattle.chan_run.specs.Image.{IsProgramIn};
-ghost use Rattle.chan_run.specs.Output.{IsLeastText, extents_for, granting_just, unusual};
+ghost use Rattle.chan_args.specs.declared.image_words.RequestedJob.TheVariants as jobs;
+ghost use Rattle.chan_run.specs.Image.{HasNoNeeds, IsDeckText, IsNoDeck, IsProgramAt, IsProgramIn};
+ghost use Rattle.chan_run.specs.Output.{IsLeastText, extents_for, granting_just, unusual_limit};
 ghost use Rattle.chan_deck.specs.Image.{Spells};
 ghost use Rattle.chan_deck.specs.Item.{IsAddress};
-ghost use Rattle.chan_deck.specs.Parts.{image_of_parts};
 ghost use Rattle.chan_walk.specs.Job.{storage_of};
 ghost use Rattle.chan_run.specs.declared.image_options.ImageOptions.{ImageOptions};
+ghost use Rattle.ccw_core.specs.declared.ccw.TheConstants.{STORAGE_LIMIT};
 
 use crate::deck_parts::deck_parts;
 use crate::failure::Failure;
@@ -25,9 +23,9 @@ use crate::image_options::ImageOptions;
 use crate::outcome::Outcome;
 use ccw_core::Storage;
 use chan_deck::{Parts, in_six_digits, parts_text, place_image};
-use chan_needs::{Needs, needs_from};
+use chan_needs::{Needs, needs_from, pairs_of};
 use chan_walk::{Job, Limit, OpenJob, Verdict, WalkError, survey};
-use ckd_core::Extents;
+use ckd_core::{Extents, LAST_CYLINDER};
 use std::alloc::{AllocError, Global};
 
 /// The text of the deck that an image makes with the options and the least job of its program.
@@ -36,7 +34,7 @@ pub(crate) fn least_text(
     options: &ImageOptions,
     image: &[u8],
 ) -> Result<Vec<u8>, Outcome>
-    requires short { options.now.at + length image.now ≤ 2 ^ 24 }
+    requires short { options.now.at + length image.now ≤ STORAGE_LIMIT }
     requires least { options.now.job ≡ jobs.Least }
     ensures text { IfOk result (λ text. IsDeckText options.now image.now text.items) }
     ensures none { IfErr result (IsNoDeck options.now image.now) }
@@ -55,13 +53,15 @@ pub(crate) fn granting_text(
     needs: &Needs,
     parts: Parts<'_>,
 ) -> Result<Vec<u8>, AllocError>
-    requires size { parts.at + length parts.image.now ≤ 2 ^ 24 }
+    requires size { parts.at + length parts.image.now ≤ STORAGE_LIMIT }
     requires start { IsAddress parts.start }
-    requires needs { (j : Job) × AreNeeds j (listed needs.now) × (length (storage_of j) ≤ 2 ^ 24) }
+    requires needs { (j : Job) × AreNeeds j (listed needs.now)
+        × (length (storage_of j) ≤ STORAGE_LIMIT) }
     ensures { IfOk result (λ text.
         Spells text.items (granting_just (image_of_parts parts.entry) (listed needs.now))) }
 {
-    let extents = extents_over(alloc, &needs.extents)?;
+    let runs = pairs_of(alloc, &needs.extents)?;
+    let extents = extents_over(alloc, &runs)?;
     let fetch = in_six_digits(alloc, &needs.fetch)?;
     let store = in_six_digits(alloc, &needs.store)?;
     let granting = Parts {
@@ -88,7 +88,7 @@ pub(crate) fn least_deck_text(
         return Err(AllocError);
     };
     let parts = Parts {
-        limit: unusual(job.limit),
+        limit: unusual_limit(job.limit),
         device: job.device,
         mask: job.mask,
         start: job.start,
@@ -110,8 +110,8 @@ fn whole<'a>(storage: Storage<'a>) -> Option<&'a [u8]>
 }
 
 /// A limit that isn't the usual one, which a deck has to say.
-fn unusual(limit: Limit) -> Option<Limit>
-    ensures { result ≡ unusual limit }
+fn unusual_limit(limit: Limit) -> Option<Limit>
+    ensures { result ≡ unusual_limit limit }
 {
     if limit.get() == Limit::usual().get() {
         None
@@ -122,7 +122,7 @@ fn unusual(limit: Limit) -> Option<Limit>
 
 /// What the program needs that the options find in an image.
 fn needs_in(alloc: Global, options: &ImageOptions, image: &[u8]) -> Result<Needs, Outcome>
-    requires { options.now.at + length image.now ≤ 2 ^ 24 }
+    requires { options.now.at + length image.now ≤ STORAGE_LIMIT }
     ensures ok { IfOk result (λ n. (j : Job) → IsProgramIn options.now image.now j
         → AreNeeds j (listed n)) }
     ensures some { OnOk result ((j : Job) × IsProgramIn options.now image.now j) }
@@ -180,6 +180,10 @@ pub(crate) fn extents_over(alloc: Global, runs: &[(u16, u16)]) -> Result<Extents
     requires { AllByRecursion IsExtent runs.now }
     ensures { IfOk result (λ extents. extents ≡ extents_for runs.now) }
 {
-    let runs = if runs.is_empty() { &[(0, 202)] } else { runs };
+    let runs = if runs.is_empty() {
+        &[(0, LAST_CYLINDER)]
+    } else {
+        runs
+    };
     Extents::new(alloc, runs).map_err(|_| AllocError)
 }

@@ -9,7 +9,7 @@
 //!     let mut errors = Watched::new(rt.stderr());
 //!     let unnamed = Naming { name: None, is_among: false };
 //!     let verify = Action::Verify;
-//!     exit_status(answer(rt.alloc(), unnamed, verify, &mut input, &mut output, &mut errors))
+//!     exit_status(judge_deck(rt.alloc(), unnamed, verify, &mut input, &mut output, &mut errors))
 //! }
 //! ```
 //!
@@ -18,10 +18,10 @@
 #![tactic(auto)]
 
 mod advice;
-mod answers;
 mod bases;
 mod beginning;
 mod deck_parts;
+mod decks;
 mod delivery;
 mod explained_offence;
 mod extra_word;
@@ -54,7 +54,7 @@ mod terms;
 mod texts;
 mod word;
 
-pub use crate::answers::{answer, answer_image, note_usual_device};
+pub use crate::decks::{judge_deck, make_deck, note_usual_device};
 pub use crate::delivery::deliver;
 pub use crate::failure::Failure;
 pub use crate::find::find_programs;
@@ -64,9 +64,9 @@ pub use crate::name::Naming;
 pub use crate::named_ccw::respond_to_ccw;
 pub use crate::one_ccw::{ShowError, show};
 pub use crate::option_fault::{
-    report_all_beside_of, report_file, report_grants, report_no_ccw, report_option, report_usage,
+    report_all_with_of, report_file, report_grants, report_no_ccw, report_option, report_usage,
 };
-pub use crate::option_values::{asked_address, options_of};
+pub use crate::option_values::{address_option, options_of};
 pub use crate::outcome::{Outcome, ends_run, exit_status, greater_status, report};
 pub use crate::response::{Response, respond};
 pub use crate::status::{RunError, Status, run};

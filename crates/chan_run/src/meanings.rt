@@ -5,10 +5,10 @@ ghost use Rattle.chan_run.specs.Meanings.{AreTermsListed, AreWordsListed, IsInNo
 ghost use Rattle.chan_run.specs.Meanings.{IsUnknown, IsWordAnswer};
 ghost use Rattle.chan_run.specs.Outcome.{IsDone, IsWriteFailure};
 
-use crate::failure::{Failure, row};
+use crate::failure::Failure;
 use crate::nearest::nearest_word;
 use crate::outcome::Outcome;
-use crate::output_words::{OUTPUT_WORDS, list_rows, row_for, write_row};
+use crate::output_words::{OUTPUT_WORDS, definition_for, list_definitions, write_definition};
 use crate::spelled::spelled_text;
 use crate::terms::{TERMS, Term, term_of, term_word};
 use crate::texts::write_texts;
@@ -228,8 +228,8 @@ pub fn explain_word<W: Write>(alloc: Global, word: &str, to: &mut Watched<W>) ->
 {
     match term_of(word) {
         Some(term) => Outcome::of_write(write_out(meaning(term).as_bytes(), to)),
-        None => match row_for(&OUTPUT_WORDS, word) {
-            Some(row) => Outcome::of_write(write_row(row, to)),
+        None => match definition_for(&OUTPUT_WORDS, word) {
+            Some(definition) => Outcome::of_write(write_definition(definition, to)),
             None => explain_spelled(alloc, word, to),
         },
     }
@@ -274,7 +274,7 @@ pub fn list_words<W: Write>(to: &mut Watched<W>) -> Outcome
     ensures write { IsWriteFailure result ↔ (to.new.failed ≡ true) }
 {
     match list_terms(&TERMS, to) {
-        Outcome::Done => list_rows(&OUTPUT_WORDS, to),
+        Outcome::Done => list_definitions(&OUTPUT_WORDS, to),
         end => end,
     }
 }
@@ -300,7 +300,7 @@ fn brief(term: Term) -> &'static str {
     match term {
         Term::Reason(reason) => reason_brief(reason),
         Term::Cause(cause) => cause_brief(cause),
-        Term::Failure(failure) => row(failure).1,
+        Term::Failure(failure) => failure.brief(),
     }
 }
 
@@ -348,7 +348,7 @@ fn meaning(term: Term) -> &'static str {
     match term {
         Term::Reason(reason) => reason_meaning(reason),
         Term::Cause(cause) => cause_meaning(cause),
-        Term::Failure(failure) => row(failure).3,
+        Term::Failure(failure) => failure.meaning(),
     }
 }
 

@@ -39,8 +39,8 @@ pub(crate) fn nearest_word(alloc: Global, text: &str) -> Result<Option<&'static 
     for term in &TERMS {
         nearest = nearer(alloc, nearest, term_word(*term), small.as_str())?;
     }
-    for row in &OUTPUT_WORDS {
-        if let Some((word, _)) = row.split_once(": ") {
+    for definition in &OUTPUT_WORDS {
+        if let Some((word, _)) = definition.split_once(": ") {
             nearest = nearer(alloc, nearest, word, small.as_str())?;
         }
     }

@@ -5,13 +5,13 @@ ghost use Rattle.chan_run.specs.Name.{name_in};
 ghost use Rattle.chan_run.specs.NoJob.{IsExplainedOpenly, IsNoJobText, cure_note, is_of_ends};
 ghost use Rattle.chan_walk.specs.OpenJob.{IsOpenJob};
 ghost use Rattle.chan_walk.specs.declared.job.Job.{Job};
+ghost use Rattle.ccw_core.specs.declared.ccw.TheConstants.{STORAGE_LIMIT};
 
 use crate::image_options::ImageOptions;
 use crate::least_job::job_at;
 use crate::name::named;
-use crate::options::PAST_ADDRESSES;
 use crate::output::why_text;
-use ccw_core::{Area, Storage};
+use ccw_core::{Area, STORAGE_LIMIT, Storage};
 use chan_args::Explained;
 use chan_deck::{place_image, storage_note};
 use chan_walk::{Evidence, Job, OpenJob, Reason, Verdict, WalkError, survey};
@@ -28,7 +28,7 @@ pub(crate) fn no_job_text(
     image: &[u8],
     given: usize,
 ) -> Result<String, WalkError>
-    requires { options.now.at + length image.now ≤ 2 ^ 24 }
+    requires { options.now.at + length image.now ≤ STORAGE_LIMIT }
     ensures { IfOk result (λ text.
         IsNoJobText (name_in name.entry) options.now image.now (string_bytes text)) }
 {
@@ -153,7 +153,7 @@ fn cure_note(alloc: Global, job: &Job, verdict: Verdict) -> Result<String, Alloc
     ensures { IfOk result (λ note. string_bytes note ≡ cure_note job.now verdict) }
 {
     let size = job.storage.len();
-    if is_of_ends(job.start, verdict) && size < PAST_ADDRESSES {
+    if is_of_ends(job.start, verdict) && size < STORAGE_LIMIT {
         return storage_note(alloc, size);
     }
     Ok(String::new(alloc))

@@ -2,8 +2,9 @@
 
 ghost use Rattle.std.specs.Prelude.{◌≡◌, ◌+◌, ◌≤◌, ◌^◌, length, IfOk};
 ghost use Rattle.chan_deck.specs.Image.{Spells};
-ghost use Rattle.chan_deck.specs.Parts.{storage_with};
+ghost use Rattle.chan_deck.specs.PartsImage.{storage_with};
 ghost use Rattle.chan_run.specs.Image.{areas_over, open_deck};
+ghost use Rattle.ccw_core.specs.declared.ccw.TheConstants.{STORAGE_LIMIT};
 
 use crate::image_options::ImageOptions;
 use crate::least_job::extents_over;
@@ -14,7 +15,7 @@ use std::alloc::{AllocError, Global};
 
 /// All of the storage in which an image begins at an address, as areas of a deck.
 fn areas_over(alloc: Global, at: usize, image: &[u8]) -> Result<Vec<Area>, AllocError>
-    requires { at + length image.now ≤ 2 ^ 24 }
+    requires { at + length image.now ≤ STORAGE_LIMIT }
     ensures { IfOk result (λ areas. areas.items ≡ areas_over (storage_with at image.now)) }
 {
     let len = (at + image.len()).next_multiple_of(8) as u32;
@@ -27,7 +28,7 @@ pub(crate) fn open_text(
     options: &ImageOptions,
     image: &[u8],
 ) -> Result<Vec<u8>, AllocError>
-    requires { options.now.at + length image.now ≤ 2 ^ 24 }
+    requires { options.now.at + length image.now ≤ STORAGE_LIMIT }
     ensures { IfOk result (λ text. Spells text.items (open_deck options.now image.now)) }
 {
     let extents = extents_over(alloc, &[])?;

@@ -15,13 +15,13 @@ use chan_args::{GrantFault, ImageOption};
 use std::io::Write;
 
 /// What the text of the usage fault begins with that an option stands beside the least job.
-const BESIDE_LEAST: &str = "error: the argument '--least' cannot be used with '";
+const WITH_LEAST: &str = "error: the argument '--least' cannot be used with '";
 
 /// The same beside the open job.
-const BESIDE_OPEN: &str = "error: the argument '--open' cannot be used with '";
+const WITH_OPEN: &str = "error: the argument '--open' cannot be used with '";
 
 /// The same beside each cause.
-const BESIDE_ALL: &str = "error: the argument '--all' cannot be used with '";
+const WITH_ALL: &str = "error: the argument '--all' cannot be used with '";
 
 /// The text of the usage fault that there is neither an extent nor the least job nor the open job.
 const NO_EXTENT: &str = "error: the following required arguments were not provided:
@@ -93,8 +93,8 @@ pub fn report_grants<W: Write>(fault: GrantFault, to: &mut Watched<W>) -> u8
         (W.contents to.old.device) (W.contents to.new.device) to.new.failed }
 {
     let _ = match fault {
-        GrantFault::BesideLeast(option) => write_beside(BESIDE_LEAST, usage(option), to),
-        GrantFault::BesideOpen(option) => write_beside(BESIDE_OPEN, usage(option), to),
+        GrantFault::WithLeast(option) => write_grant_fault(WITH_LEAST, usage(option), to),
+        GrantFault::WithOpen(option) => write_grant_fault(WITH_OPEN, usage(option), to),
         GrantFault::NoExtent => write_texts(&[NO_EXTENT, MORE], to),
     };
     4
@@ -102,24 +102,28 @@ pub fn report_grants<W: Write>(fault: GrantFault, to: &mut Watched<W>) -> u8
 
 /// Writes the text of the usage fault that both each cause and the offence at an address are asked
 /// for, and gives the exit status, 4, as `report_option` does.
-pub fn report_all_beside_of<W: Write>(to: &mut Watched<W>) -> u8
+pub fn report_all_with_of<W: Write>(to: &mut Watched<W>) -> u8
     requires { to.old.failed ≡ false }
     ensures status { result ≡ 4 }
-    ensures said { WriterGot (BESIDE_ALL.now ++ (usage_of options.Of ++ (codes "'" ++ MORE.now)))
+    ensures said { WriterGot (WITH_ALL.now ++ (usage_of options.Of ++ (codes "'" ++ MORE.now)))
         (W.contents to.old.device) (W.contents to.new.device) to.new.failed }
 {
-    let _ = write_beside(BESIDE_ALL, usage(ImageOption::Of), to);
+    let _ = write_grant_fault(WITH_ALL, usage(ImageOption::Of), to);
     4
 }
 
 /// Writes the text of the usage fault that an option stands beside another, which begins so.
-fn write_beside<W: Write>(beside: &str, usage: &str, to: &mut Watched<W>) -> Result<(), DeviceFault>
+fn write_grant_fault<W: Write>(
+    front: &str,
+    usage: &str,
+    to: &mut Watched<W>,
+) -> Result<(), DeviceFault>
     requires { to.old.failed ≡ false }
-    ensures said { WriterGot (beside.now ++ (usage.now ++ (codes "'" ++ MORE.now)))
+    ensures said { WriterGot (front.now ++ (usage.now ++ (codes "'" ++ MORE.now)))
         (W.contents to.old.device) (W.contents to.new.device) to.new.failed }
     ensures fault { IsErr result ↔ (to.new.failed ≡ true) }
 {
-    write_texts(&[beside, usage, "'", MORE], to)
+    write_texts(&[front, usage, "'", MORE], to)
 }
 
 /// Writes the text of the usage fault that the name of a file stands in place of a command, and

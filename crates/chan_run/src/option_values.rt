@@ -4,9 +4,9 @@ ghost use Rattle.std.specs.Prelude.{◌≡◌, [], Err, IfErr, IfOk, Ok, unwrap_
 ghost use Rattle.std.specs.List.{All};
 ghost use Rattle.chan_args.specs.declared.image_words.ImageOption.TheVariants as options;
 ghost use Rattle.chan_deck.specs.Item.{IsArea};
-ghost use Rattle.chan_run.specs.OptionValues.{HoldsReading, asked, extents_in, named, options_in};
-ghost use Rattle.chan_run.specs.OptionValues.{read_each, read_if};
-ghost use Rattle.chan_run.specs.Options.{IsSize, address_in, area_in, extent_in, limit_in, said};
+ghost use Rattle.chan_run.specs.OptionValues.{HoldsReading, extents_in, for_option, options_in};
+ghost use Rattle.chan_run.specs.OptionValues.{read_optional, read_repeated, option_values_of};
+ghost use Rattle.chan_run.specs.Options.{IsSize, address_in, area_in, extent_in, limit_in, parsed};
 ghost use Rattle.chan_run.specs.Options.{size_in};
 
 use crate::image_options::{ImageOptions, OptionError, OptionFault};
@@ -19,12 +19,13 @@ use std::alloc::Global;
 
 /// What the text of an option says, or the error that names the option, its text and why that isn't
 /// accepted.
-fn named<'a, T>(
+fn for_option<'a, T>(
     option: ImageOption,
     text: &'a str,
     answer: Result<T, &'a str>,
 ) -> Result<T, OptionError<'a>>
-    ensures { HoldsReading (λ x. x) (named option text.entry.now (said answer.entry)) result }
+    ensures { HoldsReading (λ x. x) (for_option option text.entry.now (parsed answer.entry))
+        result }
 {
     match answer {
         Ok(value) => Ok(value),
@@ -38,13 +39,13 @@ fn areas_of<'a>(
     option: ImageOption,
     texts: &[&'a str],
 ) -> Result<Vec<Area>, OptionError<'a>>
-    ensures gives { HoldsReading (λ areas. areas.items) (read_each area_in option [] texts.now)
+    ensures gives { HoldsReading (λ areas. areas.items) (read_repeated area_in option [] texts.now)
         result }
     ensures fit { IfOk result (λ areas. All IsArea areas.items) }
 {
     let mut areas = Vec::new(alloc);
     for text in texts {
-        let area = named(option, text, area_of(text))?;
+        let area = for_option(option, text, area_of(text))?;
         areas.push(area).map_err(|_| OptionError::Memory)?;
     }
     Ok(areas)
@@ -52,12 +53,13 @@ fn areas_of<'a>(
 
 /// The pairs of cylinders that the texts of extents say.
 fn pairs_of<'a>(alloc: Global, texts: &[&'a str]) -> Result<Vec<(u16, u16)>, OptionError<'a>>
-    ensures { HoldsReading (λ pairs. pairs.items) (read_each extent_in options.Extent [] texts.now)
+    ensures { HoldsReading (λ pairs. pairs.items)
+        (read_repeated extent_in options.Extent [] texts.now)
         result }
 {
     let mut pairs = Vec::new(alloc);
     for text in texts {
-        let pair = named(ImageOption::Extent, text, extent_of(text))?;
+        let pair = for_option(ImageOption::Extent, text, extent_of(text))?;
         pairs.push(pair).map_err(|_| OptionError::Memory)?;
     }
     Ok(pairs)
@@ -75,27 +77,29 @@ fn extents_of<'a>(alloc: Global, texts: &[&'a str]) -> Result<Extents, OptionErr
 
 /// The limit that its text says, where there is one.
 fn limit_or_none<'a>(text: Option<&'a str>) -> Result<Option<Limit>, OptionError<'a>>
-    ensures { HoldsReading (λ limit. limit) (read_if limit_in options.Limit text.entry) result }
+    ensures { HoldsReading (λ limit. limit) (read_optional limit_in options.Limit text.entry)
+        result }
 {
     match text {
-        Some(text) => Ok(Some(named(ImageOption::Limit, text, limit_of(text))?)),
+        Some(text) => Ok(Some(for_option(ImageOption::Limit, text, limit_of(text))?)),
         None => Ok(None),
     }
 }
 
 /// The size of storage that its text says, where there is one.
 fn size_or_none<'a>(text: Option<&'a str>) -> Result<Option<u32>, OptionError<'a>>
-    ensures gives { HoldsReading (λ n. n) (read_if size_in options.Storage text.entry) result }
+    ensures gives { HoldsReading (λ n. n) (read_optional size_in options.Storage text.entry)
+        result }
     ensures fits { IfOk result (λ size. IsSize (unwrap_or size 0)) }
 {
     match text {
-        Some(text) => Ok(Some(named(ImageOption::Storage, text, size_of(text))?)),
+        Some(text) => Ok(Some(for_option(ImageOption::Storage, text, size_of(text))?)),
         None => Ok(None),
     }
 }
 
 /// The address of the offence that is asked about, or why its text isn't accepted.
-pub fn asked_address(text: &str) -> Result<u32, OptionFault<'_>>
+pub fn address_option(text: &str) -> Result<u32, OptionFault<'_>>
     ensures ok { IfOk result (λ address. address_in text.entry.now ≡ Ok address) }
     ensures err { IfErr result (λ fault. (fault.option ≡ options.Of) × (fault.text ≡ text.entry)
         × (address_in text.entry.now ≡ Err fault.why.now)) }
@@ -120,16 +124,16 @@ pub fn options_of<'a>(
     alloc: Global,
     words: &ImageWords<'a>,
 ) -> Result<ImageOptions, OptionError<'a>>
-    ensures { HoldsReading asked (options_in words.now) result }
+    ensures { HoldsReading option_values_of (options_in words.now) result }
 {
-    let device = named(ImageOption::Device, words.device, device_of(words.device))?;
-    let mask = named(ImageOption::Mask, words.mask, mask_of(words.mask))?;
-    let start = named(ImageOption::Start, words.start, address_of(words.start))?;
+    let device = for_option(ImageOption::Device, words.device, device_of(words.device))?;
+    let mask = for_option(ImageOption::Mask, words.mask, mask_of(words.mask))?;
+    let start = for_option(ImageOption::Start, words.start, address_of(words.start))?;
     let limit = limit_or_none(words.limit)?;
     let extents = extents_of(alloc, &words.extents)?;
     let fetch = areas_of(alloc, ImageOption::Fetch, &words.fetch)?;
     let store = areas_of(alloc, ImageOption::Store, &words.store)?;
-    let at = named(ImageOption::At, words.at, address_of(words.at))?;
+    let at = for_option(ImageOption::At, words.at, address_of(words.at))?;
     let size = size_or_none(words.storage)?;
     Ok(ImageOptions {
         device,

@@ -5,15 +5,11 @@ ghost use Rattle.chan_deck.specs.Item.{IsAddress, IsArea};
 ghost use Rattle.chan_run.specs.Options.{IsSize, address_in, area_between, area_in, cylinder_in};
 ghost use Rattle.chan_run.specs.Options.{cylinders_in, device_in, digits_in, extent_in};
 ghost use Rattle.chan_run.specs.Options.{hexadecimal_in, limit_in, mask_in, number_in, pair_in};
-ghost use Rattle.chan_run.specs.Options.{said, size_in, sized_area};
+ghost use Rattle.chan_run.specs.Options.{parsed, size_in, sized_area};
 
-use ccw_core::Area;
+use ccw_core::{Area, STORAGE_LIMIT};
 use chan_walk::Limit;
 use ckd_core::{Device, FileMask, LAST_CYLINDER};
-
-/// The first number that is no address, and the most bytes that storage may have: addresses have
-/// 24 bits.
-pub(crate) const PAST_ADDRESSES: u32 = 0x100_0000;
 
 // What each option accepts: the cause if its text has another form.
 const DEVICE_FORM: &str = "2311 or 2314";
@@ -93,7 +89,7 @@ fn hexadecimal_of(text: &str) -> Option<u32>
 
 /// A device, by its number: `2311` or `2314`.
 pub(crate) fn device_of(text: &str) -> Result<Device, &str>
-    ensures { said result ≡ device_in text.now }
+    ensures { parsed result ≡ device_in text.now }
 {
     match text {
         "2311" => Ok(Device::D2311),
@@ -104,7 +100,7 @@ pub(crate) fn device_of(text: &str) -> Result<Device, &str>
 
 /// A file mask: a hexadecimal number that is a mask's byte.
 pub(crate) fn mask_of(text: &str) -> Result<FileMask, &str>
-    ensures { said result ≡ mask_in text.now }
+    ensures { parsed result ≡ mask_in text.now }
 {
     match hexadecimal_of(text) {
         Some(number) if number > 0xFF => Err(MASK_ABOVE),
@@ -115,11 +111,11 @@ pub(crate) fn mask_of(text: &str) -> Result<FileMask, &str>
 
 /// An address: a hexadecimal number, at most `FFFFFF`.
 pub(crate) fn address_of(text: &str) -> Result<u32, &str>
-    ensures says { said result ≡ address_in text.now }
+    ensures says { parsed result ≡ address_in text.now }
     ensures fits { IfOk result IsAddress }
 {
     match hexadecimal_of(text) {
-        Some(number) if number >= PAST_ADDRESSES => Err(ADDRESS_ABOVE),
+        Some(number) if number >= STORAGE_LIMIT => Err(ADDRESS_ABOVE),
         Some(number) => Ok(number),
         None => Err(ADDRESS_FORM),
     }
@@ -127,11 +123,11 @@ pub(crate) fn address_of(text: &str) -> Result<u32, &str>
 
 /// A size of storage: a hexadecimal number that is a multiple of 8 and at most `1000000`.
 pub(crate) fn size_of(text: &str) -> Result<u32, &str>
-    ensures says { said result ≡ size_in text.now }
+    ensures says { parsed result ≡ size_in text.now }
     ensures fits { IfOk result IsSize }
 {
     match hexadecimal_of(text) {
-        Some(number) if number > PAST_ADDRESSES => Err(SIZE_ABOVE),
+        Some(number) if number > STORAGE_LIMIT => Err(SIZE_ABOVE),
         Some(number) if number % 8 != 0 => Err(SIZE_ODD),
         Some(number) => Ok(number),
         None => Err(SIZE_FORM),
@@ -140,7 +136,7 @@ pub(crate) fn size_of(text: &str) -> Result<u32, &str>
 
 /// A limit on places: one decimal digit or more, whose number is from 1 to 65,536.
 pub(crate) fn limit_of(text: &str) -> Result<Limit, &str>
-    ensures { said result ≡ limit_in text.now }
+    ensures { parsed result ≡ limit_in text.now }
 {
     match number_of(text, 10) {
         Some(0) => Err(LIMIT_BELOW),
@@ -170,7 +166,7 @@ fn cylinders_of(text: &str) -> Option<(u16, u16)>
 /// First and last cylinder of an extent, such as `10-19`: decimal numbers in order, the last one on
 /// the device.
 pub(crate) fn extent_of(text: &str) -> Result<(u16, u16), &str>
-    ensures { said result ≡ extent_in text.now }
+    ensures { parsed result ≡ extent_in text.now }
 {
     match cylinders_of(text) {
         Some((first, last)) if last < first => Err(EXTENT_BACKWARDS),
@@ -191,12 +187,12 @@ fn pair_of(text: &str, sign: char) -> Option<(u32, u32)>
 
 /// The area with this start and this length, each at most `FFFFFF`.
 fn sized_area<'a>(start: u32, len: u32) -> Result<Area, &'a str>
-    ensures says { said result ≡ sized_area (start, len) }
+    ensures says { parsed result ≡ sized_area (start, len) }
     ensures fits { IfOk result IsArea }
 {
-    if start >= PAST_ADDRESSES {
+    if start >= STORAGE_LIMIT {
         Err(AREA_START_ABOVE)
-    } else if len >= PAST_ADDRESSES {
+    } else if len >= STORAGE_LIMIT {
         Err(AREA_LENGTH_ABOVE)
     } else {
         Ok(Area { start, len })
@@ -205,14 +201,14 @@ fn sized_area<'a>(start: u32, len: u32) -> Result<Area, &'a str>
 
 /// The area with this first byte and this last, in order and each at most `FFFFFF`.
 fn area_between<'a>(first: u32, last: u32) -> Result<Area, &'a str>
-    ensures says { said result ≡ area_between (first, last) }
+    ensures says { parsed result ≡ area_between (first, last) }
     ensures fits { IfOk result IsArea }
 {
     if last < first {
         Err(AREA_BACKWARDS)
-    } else if last >= PAST_ADDRESSES {
+    } else if last >= STORAGE_LIMIT {
         Err(AREA_LAST_ABOVE)
-    } else if last - first == PAST_ADDRESSES - 1 {
+    } else if last - first == STORAGE_LIMIT - 1 {
         Err(AREA_LONGEST)
     } else {
         Ok(Area {
@@ -226,7 +222,7 @@ fn area_between<'a>(first: u32, last: u32) -> Result<Area, &'a str>
 /// as `900-90F`: hexadecimal numbers, each at most `FFFFFF`, the last byte not below the first. Its
 /// length is at most `FFFFFF` too.
 pub(crate) fn area_of(text: &str) -> Result<Area, &str>
-    ensures says { said result ≡ area_in text.now }
+    ensures says { parsed result ≡ area_in text.now }
     ensures fits { IfOk result IsArea }
 {
     if let Some((start, len)) = pair_of(text, '+') {

@@ -2,15 +2,14 @@
 
 ghost use Rattle.std.specs.Prelude.{◌≡◌, ◌≤◌, ◌↔◌, ◌⊎◌, ◌++◌, false, true, IsErr, IsTrue};
 ghost use Rattle.std.specs.Prelude.{IsErrOf, IsOk};
-ghost use Rattle.chan_run.specs.Failure.{row_of_failure};
 ghost use Rattle.chan_run.specs.Name.{name_in};
 ghost use Rattle.chan_run.specs.Outcome.{IsDone, IsWriteFailure, line_over};
-ghost use Rattle.chan_run.specs.Outcome.{shown, status_of, wrote};
+ghost use Rattle.chan_run.specs.Outcome.{outcome_of_show, outcome_of_write, status_of};
 ghost use Rattle.chan_run.specs.Response.{outcome_of};
 ghost use Rattle.chan_run.specs.Texts.{WriterGot};
 ghost use Rattle.chan_run.specs.declared.outcome.Outcome.TheVariants.{Done, Failed, Refused};
 
-use crate::failure::{Failure, row};
+use crate::failure::Failure;
 use crate::name::named;
 use crate::one_ccw::ShowError;
 use crate::terms::cause_word;
@@ -49,7 +48,7 @@ pub enum Outcome {
 impl Outcome {
     /// What `show` came to.
     pub fn of_show(answer: Result<(), ShowError>) -> Outcome
-        ensures is { result ≡ shown answer }
+        ensures is { result ≡ outcome_of_show answer }
         ensures write { IsWriteFailure result ↔ IsErrOf answer ShowError.Write }
     {
         match answer {
@@ -72,7 +71,7 @@ impl Outcome {
 
     /// What a write of all that was asked for came to.
     pub(crate) fn of_write(answer: Result<(), DeviceFault>) -> Outcome
-        ensures is { result ≡ wrote answer }
+        ensures is { result ≡ outcome_of_write answer }
         ensures done { result ≡ Done ↔ IsOk answer }
         ensures write { IsWriteFailure result ↔ IsErr answer }
     {
@@ -142,9 +141,9 @@ pub fn exit_status(outcome: Outcome) -> u8
         Outcome::Done => 0,
         Outcome::Denied => 1,
         Outcome::Refused { .. } => 2,
-        Outcome::NoJob { .. } => row(Failure::NoJobWillDo).4,
-        Outcome::Unknown(_) => row(Failure::NoSuchWord).4,
-        Outcome::Failed(failure) => row(failure).4,
+        Outcome::NoJob { .. } => Failure::NoJobWillDo.status(),
+        Outcome::Unknown(_) => Failure::NoSuchWord.status(),
+        Outcome::Failed(failure) => failure.status(),
     }
 }
 
@@ -209,13 +208,6 @@ fn write_failure<W: Write>(
         (W.contents to.old.device) (W.contents to.new.device) to.new.failed }
     ensures fault { IsErr result ↔ (to.new.failed ≡ true) }
 {
-    let (name, mark) = named(name, row(failure).5);
-    write_texts(&["chanv: ", name, mark, line_of(failure)], to)
-}
-
-/// What the line of a failure says.
-fn line_of<'a>(failure: Failure) -> &'a str
-    ensures { result.now ≡ (row_of_failure failure).line }
-{
-    row(failure).2
+    let (name, mark) = named(name, failure.is_on_input());
+    write_texts(&["chanv: ", name, mark, failure.line()], to)
 }

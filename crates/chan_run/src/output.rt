@@ -3,14 +3,14 @@
 ghost use Rattle.std.specs.Prelude.{◌≡◌, ◌++◌, List, ℕ, true, IfOk, string_bytes};
 ghost use Rattle.chan_deck.specs.Graph.{IsPictureOf};
 ghost use Rattle.chan_deck.specs.Listing.{seen_listing};
-ghost use Rattle.chan_deck.specs.Texts.{verdict_line};
+ghost use Rattle.chan_deck.specs.VerdictLine.{verdict_line};
 ghost use Rattle.chan_walk.specs.Offence.{first_verdict};
 ghost use Rattle.chan_walk.specs.JobSurvey.{IsSurvey};
 ghost use Rattle.chan_run.specs.Name.{heading_of, name_before, name_in};
-ghost use Rattle.chan_run.specs.Output.{AreTold, IsAskedText, IsExplained, IsNeeded};
+ghost use Rattle.chan_run.specs.Output.{AreExplainedCauses, IsActionOutput, IsExplained, IsNeeded};
 
-use crate::advice::said_of;
-use crate::explained_offence::offence_asked;
+use crate::advice::job_advice;
+use crate::explained_offence::requested_offence;
 use crate::least_job::least_deck_text;
 use crate::name::{Naming, heading_of};
 use ccw_core::Watched;
@@ -33,7 +33,7 @@ pub(crate) fn output_of(
     survey: Survey,
 ) -> Result<Vec<u8>, AllocError>
     requires { IsSurvey job.now survey }
-    ensures { IfOk result (λ text. IsAskedText naming.entry action job.now
+    ensures { IfOk result (λ text. IsActionOutput naming.entry action job.now
         (first_verdict survey.offences) text.items) }
 {
     match action {
@@ -111,7 +111,7 @@ fn picture_of(
 {
     let causes = causes_from(alloc, &survey)?;
     let stored_over = witness_from(alloc, &survey)?.stored_over;
-    let notes = said_of(alloc, false, Explained::First, job, &survey)?;
+    let notes = job_advice(alloc, false, Explained::First, job, &survey)?;
     let verdict = survey.verdict();
     let (looks, offences) = survey.into_parts();
     let picture = Picture {
@@ -138,24 +138,25 @@ pub(crate) fn why_text(
     ensures { IfOk result (λ text. IsExplained explained job.now
         (first_verdict survey.now.offences) (string_bytes text)) }
 {
-    if let Some(offence) = offence_asked(survey, explained) {
+    if let Some(offence) = requested_offence(survey, explained) {
         let witness = witness_of(alloc, survey, offence)?;
         return offence_text(alloc, job, survey.verdict(), &witness);
     }
     let witness = witness_from(alloc, survey)?;
-    let causes = causes_told(alloc, explained, job, survey)?;
+    let causes = explained_causes(alloc, explained, job, survey)?;
     explanation_text(alloc, job, survey, &witness, causes.as_slice())
 }
 
 /// The causes of all offences, or none, if they aren't asked for.
-fn causes_told(
+fn explained_causes(
     alloc: Global,
     explained: Explained,
     job: &Job,
     survey: &Survey,
 ) -> Result<Vec<Evidence>, AllocError>
     requires { IsSurvey job.now survey.now }
-    ensures { IfOk result (λ es. AreTold explained job.now survey.now.offences es.items) }
+    ensures { IfOk result
+        (λ es. AreExplainedCauses explained job.now survey.now.offences es.items) }
 {
     match explained {
         Explained::All => causes_from(alloc, survey),

@@ -3,8 +3,8 @@
 ghost use Rattle.std.specs.Prelude.{◌≡◌, ◌↔◌, IfSome, IsErr, IsTrue, None, false, true};
 ghost use Rattle.std.specs.List.{All};
 ghost use Rattle.chan_run.specs.Outcome.{IsWriteFailure};
-ghost use Rattle.chan_run.specs.OutputWords.{AreRowsListed, IsFirstRow, IsRowFor, row_line};
-ghost use Rattle.chan_run.specs.OutputWords.{row_texts};
+ghost use Rattle.chan_run.specs.OutputWords.{AreDefinitionsListed, IsFirstDefinition};
+ghost use Rattle.chan_run.specs.OutputWords.{IsDefinitionOf, definition_line, definition_texts};
 ghost use Rattle.chan_run.specs.Texts.{WriterGot};
 
 use crate::failure::Failure;
@@ -129,52 +129,61 @@ pub(crate) const OUTPUT_WORDS: [&'static str; 112] = [
     "read-count-key-data-mt: as without -mt, also on the cylinder's next tracks (code 9E)",
 ];
 
-/// Whether a row is that of a word, in upper or lower case.
-fn is_row_for(row: &str, word: &str) -> bool
-    ensures { IsTrue result ↔ IsRowFor word.now row.now }
+/// Whether a definition is that of a word, in upper or lower case.
+fn is_definition_of(definition: &str, word: &str) -> bool
+    ensures { IsTrue result ↔ IsDefinitionOf word.now definition.now }
 {
-    let (row, word) = (row.as_bytes(), word.as_bytes());
-    match row.get(..word.len()) {
-        Some(front) => front.eq_ignore_ascii_case(word) && row[word.len()..].starts_with(b": "),
+    let (definition, word) = (definition.as_bytes(), word.as_bytes());
+    match definition.get(..word.len()) {
+        Some(front) => front.eq_ignore_ascii_case(word)
+            && definition[word.len()..].starts_with(b": "),
         None => false,
     }
 }
 
-/// The first of these rows that is that of a word.
-pub(crate) fn row_for(rows: &[&'static str], word: &str) -> Option<&'static str>
-    ensures some { IfSome result (λ row. IsFirstRow word.now (row_texts rows.now) row.now) }
-    ensures none { result ≡ None → All (λ row. ¬ IsRowFor word.now row) (row_texts rows.now) }
+/// The first of these definitions that is that of a word.
+pub(crate) fn definition_for(definitions: &[&'static str], word: &str) -> Option<&'static str>
+    ensures some { IfSome result
+        (λ first. IsFirstDefinition word.now (definition_texts definitions.now) first.now) }
+    ensures none { result ≡ None
+        → All (λ text. ¬ IsDefinitionOf word.now text) (definition_texts definitions.now) }
 {
-    match rows {
+    match definitions {
         [] => None,
         [first, rest @ ..] => {
-            if is_row_for(first, word) {
+            if is_definition_of(first, word) {
                 return Some(*first);
             }
-            row_for(rest, word)
+            definition_for(rest, word)
         }
     }
 }
 
-/// Writes the line of a row.
-pub(crate) fn write_row<W: Write>(row: &str, to: &mut Watched<W>) -> Result<(), DeviceFault>
+/// Writes the line of a definition.
+pub(crate) fn write_definition<W: Write>(
+    definition: &str,
+    to: &mut Watched<W>,
+) -> Result<(), DeviceFault>
     requires { to.old.failed ≡ false }
-    ensures said { WriterGot (row_line row.now)
+    ensures said { WriterGot (definition_line definition.now)
         (W.contents to.old.device) (W.contents to.new.device) to.new.failed }
     ensures fault { IsErr result ↔ (to.new.failed ≡ true) }
 {
-    write_texts(&[row, "\n"], to)
+    write_texts(&[definition, "\n"], to)
 }
 
-/// Writes the lines of some rows.
-pub(crate) fn list_rows<W: Write>(rows: &[&'static str], to: &mut Watched<W>) -> Outcome
+/// Writes the lines of some definitions.
+pub(crate) fn list_definitions<W: Write>(
+    definitions: &[&'static str],
+    to: &mut Watched<W>,
+) -> Outcome
     requires { to.old.failed ≡ false }
-    ensures answer { AreRowsListed (row_texts rows.now) (W.contents to.old.device)
-        (W.contents to.new.device) result }
+    ensures answer { AreDefinitionsListed (definition_texts definitions.now)
+        (W.contents to.old.device) (W.contents to.new.device) result }
     ensures write { IsWriteFailure result ↔ (to.new.failed ≡ true) }
 {
-    for row in rows {
-        if write_row(row, to).is_err() {
+    for definition in definitions {
+        if write_definition(definition, to).is_err() {
             return Outcome::Failed(Failure::WriteFailed);
         }
     }

@@ -9,7 +9,7 @@ ghost use Rattle.chan_run.specs.Response.{IsVerdictResponse};
 ghost use Rattle.chan_run.specs.declared.failure.Failure.TheVariants as failures;
 ghost use Rattle.chan_run.specs.declared.outcome.Outcome.TheVariants.{Failed};
 
-use crate::advice::{hint_beside, limit_beside, notes_beside};
+use crate::advice::{action_advice, limit_advice, refusal_advice};
 use crate::failure::Failure;
 use crate::name::Naming;
 use crate::outcome::Outcome;
@@ -83,7 +83,7 @@ fn respond_to_text(
     };
     let job = deck.job();
 
-    // The borrow checker asks for the type of what a job borrows.
+    // For the checker alone: it asks for the type of what is borrowed.
     let _storage: Storage<'_> = job.storage;
     respond_to_job(alloc, naming, action, &job)
 }
@@ -103,7 +103,7 @@ fn respond_to_refused_text(
     Response {
         outcome: Outcome::Refused { line, cause },
         output: Vec::new(alloc),
-        advice: hint_beside(alloc, naming, action, text, line, cause),
+        advice: refusal_advice(alloc, naming, action, text, line, cause),
         note: "",
     }
 }
@@ -146,14 +146,14 @@ fn respond_to_judged_job(
             return Ok(Response {
                 outcome: Outcome::Failed(Failure::TooManyPlaces),
                 output: Vec::new(alloc),
-                advice: limit_beside(alloc, naming, action, job.limit),
+                advice: limit_advice(alloc, naming, action, job.limit),
                 note: "",
             });
         }
         Err(WalkError::Memory) => return Err(AllocError),
     };
     let outcome = Outcome::of_verdict(survey.verdict());
-    let advice = notes_beside(alloc, naming, action, job, &survey);
+    let advice = action_advice(alloc, naming, action, job, &survey);
     let output = output_of(alloc, naming, action, job, survey)?;
     Ok(Response {
         outcome,

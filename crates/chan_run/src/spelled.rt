@@ -5,7 +5,7 @@ ghost use Rattle.std.specs.Prelude.{◌≡◌, ◌≤◌, ◌↔◌, IfOk, IsSom
 ghost use Rattle.std.specs.List.{starts_with};
 ghost use Rattle.chan_run.specs.Spelled.{IsSpelled, SpellsByte, is_flag, is_flags, spelled_digits};
 
-use crate::output_words::{OUTPUT_WORDS, row_for};
+use crate::output_words::{OUTPUT_WORDS, definition_for};
 use ccw_core::Ccw;
 use ckd_core::{FileMask, MaskClass, further_name, lookup};
 use hex::{FromHex, encode_upper};
@@ -51,13 +51,13 @@ fn inhibition(class: MaskClass) -> &'static str {
 
 /// What a command does.
 fn action_of(name: &str) -> &'static str {
-    let row = row_for(&OUTPUT_WORDS, name).unwrap_or("");
-    match row.split_once(" (code") {
+    let definition = definition_for(&OUTPUT_WORDS, name).unwrap_or("");
+    match definition.split_once(" (code") {
         Some((named, _)) => match named.split_once(": ") {
             Some((_, action)) => action,
             None => named,
         },
-        None => row,
+        None => definition,
     }
 }
 

@@ -3,8 +3,8 @@
 ghost use Rattle.std.specs.Prelude.{◌≡◌, ◌↔◌, false, true, IfErr, IfOk, IsErrOf, IsOk};
 ghost use Rattle.chan_run.specs.Input.{IsInput, IsReadFault};
 ghost use Rattle.chan_run.specs.Name.{unnamed};
-ghost use Rattle.chan_run.specs.Outcome.{IsRunEnd, ran};
-ghost use Rattle.chan_run.specs.Response.{IsInputResponse, IsRunAnswer};
+ghost use Rattle.chan_run.specs.Outcome.{IsRunEnd, outcome_of_run};
+ghost use Rattle.chan_run.specs.Response.{IsInputResponse, IsRunOutput};
 ghost use Rattle.chan_run.specs.declared.failure.Failure.TheVariants as failures;
 ghost use Rattle.chan_run.specs.declared.outcome.Outcome.TheVariants.{Failed};
 
@@ -68,9 +68,9 @@ pub fn run<R: Read, W: Write>(
 ) -> Result<Status, RunError>
     requires reader { from.old.failed ≡ false }
     requires writer { to.old.failed ≡ false }
-    ensures answer { IsRunAnswer unnamed action (R.remaining from.old.device)
+    ensures answer { IsRunOutput unnamed action (R.remaining from.old.device)
         (R.remaining from.new.device) (W.contents to.old.device) (W.contents to.new.device)
-        (ran result) }
+        (outcome_of_run result) }
     ensures early { (IsOk result → ⊥) → (IsErrOf result RunError.Write → ⊥) → to.new ≡ to.old }
     ensures read { IsErrOf result RunError.Read ↔ (from.new.failed ≡ true) }
     ensures write { IsErrOf result RunError.Write ↔ (to.new.failed ≡ true) }
@@ -81,15 +81,15 @@ pub fn run<R: Read, W: Write>(
     };
     let response = respond_to_input(alloc, unnamed, action, from);
     match write_output(&response, to) {
-        Ok(()) => came_of(response.outcome),
+        Ok(()) => run_result(response.outcome),
         Err(_) => Err(RunError::Write),
     }
 }
 
 /// What a run came to whose answer was written.
-fn came_of(end: Outcome) -> Result<Status, RunError>
+fn run_result(end: Outcome) -> Result<Status, RunError>
     requires { IsRunEnd end }
-    ensures { ran result ≡ end }
+    ensures { outcome_of_run result ≡ end }
 {
     match end {
         Outcome::Done => Ok(Status::Yes),

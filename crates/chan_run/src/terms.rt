@@ -4,7 +4,7 @@ ghost use Rattle.std.specs.Prelude.{◌≡◌, IfSome, None};
 ghost use Rattle.std.specs.List.{All};
 ghost use Rattle.chan_run.specs.Terms.{IsWordOf, word_of_cause, word_of_term};
 
-use crate::failure::{Failure, row};
+use crate::failure::Failure;
 use chan_deck::Cause;
 use chan_walk::Reason;
 
@@ -96,7 +96,7 @@ pub(crate) fn term_word(term: Term) -> &'static str
     match term {
         Term::Reason(reason) => reason.word(),
         Term::Cause(cause) => cause_word(cause),
-        Term::Failure(failure) => row(failure).0,
+        Term::Failure(failure) => failure.word(),
     }
 }
 

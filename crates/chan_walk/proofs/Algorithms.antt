@@ -4,7 +4,7 @@ pub mod Marks
 pub mod Walking
 pub mod InOrder
 pub mod Verdicts
-pub mod Counted
+pub mod VerdictBytes
 pub mod Granted
 pub mod Guarding
 pub mod Looking

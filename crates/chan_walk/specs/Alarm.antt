@@ -20,10 +20,11 @@ use Rattle.chan_walk.specs.declared.reason.Reason.TheVariants.{WeakensMask}
 use Rattle.chan_walk.specs.declared.verdict.Verdict.{Verdict}
 use Rattle.chan_walk.specs.declared.verdict.Verdict.TheVariants.{Yes, No}
 use Rattle.chan_walk.specs.Argument.{Has}
-use Rattle.chan_walk.specs.Check.{check}
+use Rattle.chan_walk.specs.ProgramCheck.{program_check}
 use Rattle.chan_walk.specs.Fault.{is_known, begins_seek, allows}
 use Rattle.chan_walk.specs.Guarded.{IsGuarded}
-use Rattle.chan_walk.specs.Headline.{AreSafe, AreSteady, Holds, IsSafe, IsSpared, IsSteady}
+use Rattle.chan_walk.specs.Headline.{AreSafe, AreSteady, HoldsInitialByte, IsSafe, IsSpared}
+use Rattle.chan_walk.specs.Headline.{IsSteady}
 use Rattle.chan_walk.specs.Job.{storage_of, extents_of, fetch_of, store_of, HasMask}
 use Rattle.chan_walk.specs.Machine.{Gathered, At, Checked, Event, Command, Store, Fetch}
 use Rattle.chan_walk.specs.Machine.{Gather, Seek, SetMask}
@@ -49,20 +50,20 @@ first_cylinder [] = 0
 first_cylinder (e ∷ es) = e.0
 
 -- what an event stores was there before
-abbrev pub IsQuiet : Job → Event → Type 0
-IsQuiet j (Store a bytes) = bytes ≡ map (byte (storage_of j)) (range_with_len a (length bytes))
-IsQuiet j (Command code) = Unit {0}
-IsQuiet j (Fetch a n) = Unit {0}
-IsQuiet j (Gather addresses) = Unit {0}
-IsQuiet j (Seek x) = Unit {0}
-IsQuiet j (SetMask a x) = Unit {0}
+abbrev pub IsQuietEvent : Job → Event → Type 0
+IsQuietEvent j (Store a bytes) = bytes ≡ map (byte (storage_of j)) (range_with_len a (length bytes))
+IsQuietEvent j (Command code) = Unit {0}
+IsQuietEvent j (Fetch a n) = Unit {0}
+IsQuietEvent j (Gather addresses) = Unit {0}
+IsQuietEvent j (Seek x) = Unit {0}
+IsQuietEvent j (SetMask a x) = Unit {0}
 
 -- nothing has changed, the arm stands where it stood, and the job's mask is in force
 pub record IsQuietMoment (j : Job) (m : Moment) : Type 0 where
   pub storage : m.storage ≡ storage_of j
   pub arm : m.arm ≡ first_cylinder (extents_of j)
   pub mask : m.mask ≡ j.mask
-  pub events : AllByRecursion (IsQuiet j) m.events
+  pub events : AllByRecursion (IsQuietEvent j) m.events
 
 -- the moments are at these places, in order
 abbrev pub ArePlaces : List Moment → List Place → Type 0
@@ -93,15 +94,15 @@ pub record ShowsInStep (j : Job) (p : Place) (ps : List Place) (P : Moment → T
   pub shows : P next
 
 -- no argument of a seek is complete
-abbrev pub NoSeek : List Event → Type 0
-NoSeek es = (x : List ℕ) → Has es (Seek (Some x)) → ⊥
+abbrev pub HasNoWholeArgument : List Event → Type 0
+HasNoWholeArgument es = (x : List ℕ) → Has es (Seek (Some x)) → ⊥
 
 -- moments at which the same operation goes on, by data chaining, and no argument is complete
 abbrev pub StaysInOperation : List Moment → Type 0
 StaysInOperation [] = Unit {0}
 StaysInOperation (m ∷ ms) =
     ((q : Place) × (g : Gathered) × (m.stage ≡ At q g) × (is_fresh q.entered ≡ false))
-    × NoSeek m.events × StaysInOperation ms
+    × HasNoWholeArgument m.events × StaysInOperation ms
 
 -- a run comes over the places ps to p, with nothing changed so far, and P says what the moment at
 -- p and the one after a step of the operation that begins there show
@@ -130,45 +131,46 @@ FetchesFrom P es = (a : ℕ) × (n : ℕ) × (b : ℕ) × Has es (Fetch a n) × 
 -- a byte is stored that some run uses, as P says, and at m it doesn't have its first value
 abbrev pub ChangesUsed : Job → (List Moment → ℕ → Type 0) → Moment → Type 0
 ChangesUsed j P m =
-    StoresOn (λ b. (Holds j b m → ⊥) × (used : List Moment) × IsRun j used × P used b) m.events
+    StoresOn (λ b. (HoldsInitialByte j b m → ⊥) × (used : List Moment) × IsRun j used
+    × P used b) m.events
 
 -- a run comes over the places ps to p, and there the channel stops it by this program check
-abbrev pub ShowsCheck : Job → Place → List Place → Reason → Type 0
-ShowsCheck j p ps r = ShowsInStep j p ps (λ m. m.stage ≡ Checked r)
+abbrev pub ShowsProgramCheck : Job → Place → List Place → Reason → Type 0
+ShowsProgramCheck j p ps r = ShowsInStep j p ps (λ m. m.stage ≡ Checked r)
 
 -- what a run over the places ps shows for a reason at p: the program check itself; a command that
 -- may not begin; a store or a fetch outside lent areas; a seek that begins at p, where the
 -- channel's check passes, and ends or is checked before its sixth byte; an operation that begins at
 -- p and seeks where it isn't allowed; a store that changes what some run uses; a Set File Mask that
 -- begins at p and takes a byte that isn't at least as strict as the job's mask
-abbrev pub Shows : Job → Place → List Place → Reason → Type 0
-Shows j p ps Misaligned = ShowsCheck j p ps Misaligned
-Shows j p ps OutsideStorage = ShowsCheck j p ps OutsideStorage
-Shows j p ps TransferNotAllowed = ShowsCheck j p ps TransferNotAllowed
-Shows j p ps InvalidCode = ShowsCheck j p ps InvalidCode
-Shows j p ps BadFormat = ShowsCheck j p ps BadFormat
-Shows j p ps ZeroCount = ShowsCheck j p ps ZeroCount
-Shows j p ps DataOutside = ShowsCheck j p ps DataOutside
-Shows j p ps NotInTable =
+abbrev pub ShowsReason : Job → Place → List Place → Reason → Type 0
+ShowsReason j p ps Misaligned = ShowsProgramCheck j p ps Misaligned
+ShowsReason j p ps OutsideStorage = ShowsProgramCheck j p ps OutsideStorage
+ShowsReason j p ps TransferNotAllowed = ShowsProgramCheck j p ps TransferNotAllowed
+ShowsReason j p ps InvalidCode = ShowsProgramCheck j p ps InvalidCode
+ShowsReason j p ps BadFormat = ShowsProgramCheck j p ps BadFormat
+ShowsReason j p ps ZeroCount = ShowsProgramCheck j p ps ZeroCount
+ShowsReason j p ps DataOutside = ShowsProgramCheck j p ps DataOutside
+ShowsReason j p ps NotInTable =
     ShowsInStep j p ps (λ m. (code : ℕ) × Has m.events (Command code) × (is_known code ≡ false))
-Shows j p ps Inhibited =
+ShowsReason j p ps Inhibited =
     ShowsInStep j p ps (λ m. (code : ℕ) × Has m.events (Command code)
     × (inhibits j.mask code ≡ true))
-Shows j p ps StoreNotLent =
+ShowsReason j p ps StoreNotLent =
     ShowsInStep j p ps (λ m. StoresOn (λ b. lies_in (store_of j) b ≡ false) m.events)
-Shows j p ps FetchNotLent =
+ShowsReason j p ps FetchNotLent =
     ShowsInStep j p ps (λ m. FetchesFrom (λ b. lies_in (fetch_of j) b ≡ false) m.events)
-Shows j p ps ShortSeek =
-    ShowsInOperation j p ps (λ at m. (check at.storage p ≡ None)
+ShowsReason j p ps ShortSeek =
+    ShowsInOperation j p ps (λ at m. (program_check at.storage p ≡ None)
     × (begins_seek p (ccw at.storage p.address) ≡ true)
-    × NoSeek m.events
+    × HasNoWholeArgument m.events
     × (Has m.events (Seek None) ⊎ ((r : Reason) × (m.stage ≡ Checked r))))
-Shows j p ps SeekOutside =
+ShowsReason j p ps SeekOutside =
     ShowsInOperation j p ps (λ at m. (is_fresh p.entered ≡ true) × (x : List ℕ)
     × Has m.events (Seek (Some x)) × (allows j x ≡ false))
-Shows j p ps ChangesCcw = ShowsInStep j p ps (ChangesUsed j UsesInCcw)
-Shows j p ps ChangesArgument = ShowsInStep j p ps (ChangesUsed j UsesInArgument)
-Shows j p ps WeakensMask =
+ShowsReason j p ps ChangesCcw = ShowsInStep j p ps (ChangesUsed j UsesInCcw)
+ShowsReason j p ps ChangesArgument = ShowsInStep j p ps (ChangesUsed j UsesInArgument)
+ShowsReason j p ps WeakensMask =
     ShowsInStep j p ps (λ m. (is_fresh p.entered ≡ true)
     × (a : ℕ) × (x : ℕ) × Has m.events (SetMask a x)
     × (is_at_least x j.mask ≡ false))
@@ -177,11 +179,11 @@ Shows j p ps WeakensMask =
 abbrev pub EachPathShows : Type 0
 EachPathShows =
     (j : Job) (p : Place) (ps : List Place) (r : Reason) → IsProper j → IsPath j (p ∷ ps)
-    → Offends j p r → Shows j p ps r
+    → Offends j p r → ShowsReason j p ps r
 
 -- a run over some path to p shows the reason
 abbrev pub IsShownAt : Job → Place → Reason → Type 0
-IsShownAt j p r = (ps : List Place) × IsPath j (p ∷ ps) × Shows j p ps r
+IsShownAt j p r = (ps : List Place) × IsPath j (p ∷ ps) × ShowsReason j p ps r
 
 -- no false alarm: where the verdict is no, a run comes to a place with its address and shows its
 -- reason there

@@ -14,11 +14,11 @@ use Rattle.chan_walk.specs.declared.job.Job.{Job}
 use Rattle.chan_walk.specs.declared.place.Place.{Place}
 use Rattle.chan_walk.specs.declared.reason.Reason.{Reason}
 use Rattle.chan_walk.specs.declared.reason.Reason.TheVariants as reasons
-use Rattle.chan_walk.specs.Argument.{Gives}
+use Rattle.chan_walk.specs.Argument.{ChainGives}
 use Rattle.chan_walk.specs.Fault.{HasFault, allows, begins_seek}
 use Rattle.chan_walk.specs.Job.{extents_of, fetch_of, heads, storage_of, store_of}
 use Rattle.chan_walk.specs.Place.{ccw_of, data_at, first_place}
-use Rattle.chan_walk.specs.Read.{AreArgument, AreGiven}
+use Rattle.chan_walk.specs.Operand.{AreArgument, AreGiven}
 use Rattle.chan_walk.specs.Seeks.{SeeksTo}
 
 -- the two bytes of bin
@@ -82,7 +82,7 @@ IsOwnCause j p (because.StoreNotLent range gap) =
 IsOwnCause j p (because.FetchNotLent range gap) =
     (range ≡ data_at j p) × IsFirstGap (fetch_of j) range gap
 IsOwnCause j p (because.ShortSeek given) =
-    Gives (storage_of j) p.address given.count × AreGiven (storage_of j) p.address given
+    ChainGives (storage_of j) p.address given.count × AreGiven (storage_of j) p.address given
 IsOwnCause j p (because.SeekOutside outside argument) =
     ((x : List ℕ) × SeeksTo j p x × IsOutside j x outside) × IsArgumentAt j p argument
 IsOwnCause j p (because.ChangesCcw range ccw) = ⊥

@@ -19,7 +19,7 @@ use Rattle.chan_walk.specs.declared.reason.Reason.TheVariants.{NotInTable, Inhib
 use Rattle.chan_walk.specs.declared.reason.Reason.TheVariants.{FetchNotLent, ShortSeek, SeekOutside}
 use Rattle.chan_walk.specs.declared.reason.Reason.TheVariants.{WeakensMask}
 use Rattle.chan_walk.specs.Argument.{HasArgument}
-use Rattle.chan_walk.specs.Check.{first_reason, check}
+use Rattle.chan_walk.specs.ProgramCheck.{first_reason, program_check}
 use Rattle.chan_walk.specs.Job.{storage_of, extents_of, fetch_of, store_of, heads}
 use Rattle.chan_walk.specs.Place.{is_fresh, ccw_of}
 
@@ -118,7 +118,7 @@ table_of_own j p c x =
 -- the own fault, where x is the argument of a seek at the place
 abbrev pub fault_with : Job → Place → Option (List ℕ) → Option Reason
 fault_with j p x =
-    option_or (check (storage_of j) p)
+    option_or (program_check (storage_of j) p)
     (if is_transfer (ccw_of j p) then None else first_reason (table_of_own j p (ccw_of j p) x))
 
 -- the own fault of a place, or that it has none

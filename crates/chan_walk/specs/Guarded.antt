@@ -1,4 +1,11 @@
 -- The bytes of storage that a program may not change while it runs.
+--
+-- Four sets of bytes are about this. A byte is *used* where some run of the job uses it (`Runs`).
+-- It is *guarded* where a reachable place has it in its CCW or its argument; under a yes that is
+-- the same, by a law of `Alarm`. It is *kept* where it is guarded under the program's open job,
+-- whatever the job grants: what a supervisor remembers (`Needs` of chan_needs). It is a *verdict
+-- byte* where another value may change the verdict, be it a yes or a no (`VerdictBytes`); under a
+-- yes each of them is guarded.
 use Rattle.std.specs.Prelude.{◌≡◌, ℕ, ◌+◌, ◌<◌, ◌≤◌, true, List, ◌⊎◌}
 use Rattle.ccw_core.specs.Ccw.{ccw}
 use Rattle.ccw_core.specs.Storage.{Stands}
@@ -30,8 +37,8 @@ pub record IsMaskByte (s : List ℕ) (p : Place) (b : ℕ) : Type 0 where
   pub at : (ccw s p.address).address ≡ b
 
 -- p takes the byte at b: for a seek's argument, or as a mask
-abbrev pub Takes : List ℕ → Place → ℕ → Type 0
-Takes s p b = IsSeekByte s p b ⊎ IsMaskByte s p b
+abbrev pub TakesArgumentByte : List ℕ → Place → ℕ → Type 0
+TakesArgumentByte s p b = IsSeekByte s p b ⊎ IsMaskByte s p b
 
 -- the byte at b is an argument of a reachable place that has no own fault: a seek's, or the one of
 -- Set File Mask
@@ -39,7 +46,7 @@ pub record IsArgumentByte (j : Job) (b : ℕ) : Type 0 where
   pub place : Place
   pub reached : IsReachable j place
   pub clear : IsClear j place
-  pub takes : Takes (storage_of j) place b
+  pub takes : TakesArgumentByte (storage_of j) place b
 
 -- the byte at b is guarded
 abbrev pub IsGuarded : Job → ℕ → Type 0

@@ -11,17 +11,17 @@ use Rattle.chan_walk.specs.declared.reason.Reason.TheVariants.{FetchNotLent, Sho
 use Rattle.chan_walk.specs.declared.reason.Reason.TheVariants.{ChangesCcw, ChangesArgument}
 use Rattle.chan_walk.specs.declared.reason.Reason.TheVariants.{WeakensMask}
 use Rattle.chan_walk.specs.declared.verdict.Verdict.TheVariants.{No}
-use Rattle.chan_walk.specs.Alarm.{ArePlaces, IsProper, IsUsed, Shows}
+use Rattle.chan_walk.specs.Alarm.{ArePlaces, IsProper, IsUsed, ShowsReason}
 use Rattle.chan_walk.specs.Argument.{Has}
-use Rattle.chan_walk.specs.Headline.{Holds, IsSafe, IsSafeEvent, IsSafeMoment, IsSteady}
-use Rattle.chan_walk.specs.Headline.{IsUnchecked}
+use Rattle.chan_walk.specs.Headline.{HoldsInitialByte, IsSafe, IsSafeEvent, IsSafeMoment, IsSteady}
+use Rattle.chan_walk.specs.Headline.{MeetsNoProgramCheck}
 use Rattle.chan_walk.specs.Machine.{Event}
 use Rattle.chan_walk.specs.Runs.{Moment, IsRun}
 use Rattle.chan_walk.specs.Verdict.{IsVerdict}
 
 -- at m a byte that some run uses doesn't have its first value
 abbrev pub IsUnsteady : Job → Moment → Type 0
-IsUnsteady j m = (b : ℕ) × IsUsed j b × (Holds j b m → ⊥)
+IsUnsteady j m = (b : ℕ) × IsUsed j b × (HoldsInitialByte j b m → ⊥)
 
 -- a moment does harm: it isn't safe, or a byte that some run uses has changed
 abbrev pub IsHarm : Job → Moment → Type 0
@@ -48,7 +48,7 @@ NoIsHarm = (j : Job) (a : ℕ) (r : Reason) → IsProper j → IsVerdict j (No a
 
 -- a program check stopped the program
 abbrev pub IsStopped : Moment → Type 0
-IsStopped m = IsUnchecked m.stage → ⊥
+IsStopped m = MeetsNoProgramCheck m.stage → ⊥
 
 -- an event of the step to m isn't safe
 abbrev pub HasUnsafeEvent : Job → Moment → Type 0
@@ -56,23 +56,23 @@ HasUnsafeEvent j m = (e : Event) × Has m.events e × (IsSafeEvent j e → ⊥)
 
 -- what the moment that shows a reason breaks: by 1 to 7 the program is stopped; by 8 to 11, 13 and
 -- 16 an event isn't safe; by 12 one of these two; by 14 and 15 what some run uses has changed
-abbrev pub Breaks : Job → Reason → Moment → Type 0
-Breaks j Misaligned m = IsStopped m
-Breaks j OutsideStorage m = IsStopped m
-Breaks j TransferNotAllowed m = IsStopped m
-Breaks j InvalidCode m = IsStopped m
-Breaks j BadFormat m = IsStopped m
-Breaks j ZeroCount m = IsStopped m
-Breaks j DataOutside m = IsStopped m
-Breaks j NotInTable m = HasUnsafeEvent j m
-Breaks j Inhibited m = HasUnsafeEvent j m
-Breaks j StoreNotLent m = HasUnsafeEvent j m
-Breaks j FetchNotLent m = HasUnsafeEvent j m
-Breaks j ShortSeek m = HasUnsafeEvent j m ⊎ IsStopped m
-Breaks j SeekOutside m = HasUnsafeEvent j m
-Breaks j ChangesCcw m = IsUnsteady j m
-Breaks j ChangesArgument m = IsUnsteady j m
-Breaks j WeakensMask m = HasUnsafeEvent j m
+abbrev pub BreaksHeadline : Job → Reason → Moment → Type 0
+BreaksHeadline j Misaligned m = IsStopped m
+BreaksHeadline j OutsideStorage m = IsStopped m
+BreaksHeadline j TransferNotAllowed m = IsStopped m
+BreaksHeadline j InvalidCode m = IsStopped m
+BreaksHeadline j BadFormat m = IsStopped m
+BreaksHeadline j ZeroCount m = IsStopped m
+BreaksHeadline j DataOutside m = IsStopped m
+BreaksHeadline j NotInTable m = HasUnsafeEvent j m
+BreaksHeadline j Inhibited m = HasUnsafeEvent j m
+BreaksHeadline j StoreNotLent m = HasUnsafeEvent j m
+BreaksHeadline j FetchNotLent m = HasUnsafeEvent j m
+BreaksHeadline j ShortSeek m = HasUnsafeEvent j m ⊎ IsStopped m
+BreaksHeadline j SeekOutside m = HasUnsafeEvent j m
+BreaksHeadline j ChangesCcw m = IsUnsteady j m
+BreaksHeadline j ChangesArgument m = IsUnsteady j m
+BreaksHeadline j WeakensMask m = HasUnsafeEvent j m
 
 -- a run over the places ps to p goes on to a moment that breaks a promise in the way of a reason
 pub record BreaksAt (j : Job) (p : Place) (ps : List Place) (r : Reason) : Type 0 where
@@ -81,9 +81,9 @@ pub record BreaksAt (j : Job) (p : Place) (ps : List Place) (r : Reason) : Type 
   pub last : Moment
   pub is_run : IsRun j (last ∷ (more ++ run))
   pub over : ArePlaces run (p ∷ ps)
-  pub breaks : Breaks j r last
+  pub breaks : BreaksHeadline j r last
 
 -- whatever is shown for a reason breaks a promise in its way
 abbrev pub ShownBreaks : Type 0
 ShownBreaks =
-    (j : Job) (p : Place) (ps : List Place) (r : Reason) → Shows j p ps r → BreaksAt j p ps r
+    (j : Job) (p : Place) (ps : List Place) (r : Reason) → ShowsReason j p ps r → BreaksAt j p ps r

@@ -35,14 +35,14 @@ IsSafeEvent j (Seek None) = ⊥
 IsSafeEvent j (SetMask a x) = is_at_least x j.mask ≡ true
 
 -- no program check stopped the program
-abbrev pub IsUnchecked : Stage → Type 0
-IsUnchecked (At p g) = Unit {0}
-IsUnchecked Ended = Unit {0}
-IsUnchecked (Checked r) = ⊥
+abbrev pub MeetsNoProgramCheck : Stage → Type 0
+MeetsNoProgramCheck (At p g) = Unit {0}
+MeetsNoProgramCheck Ended = Unit {0}
+MeetsNoProgramCheck (Checked r) = ⊥
 
 -- a moment of a safe run
 pub record IsSafeMoment (j : Job) (m : Moment) : Type 0 where
-  pub unchecked : IsUnchecked m.stage
+  pub unchecked : MeetsNoProgramCheck m.stage
   pub inside : has_cylinder (extents_of j) m.arm ≡ true
   pub strict : is_at_least m.mask j.mask ≡ true
   pub events : AllByRecursion (IsSafeEvent j) m.events
@@ -56,13 +56,14 @@ abbrev pub IsSafe : Job → Type 0
 IsSafe j = AreSafe j (IsRun j)
 
 -- the byte at b is what it was in the initial storage
-abbrev pub Holds : Job → ℕ → Moment → Type 0
-Holds j b m = byte m.storage b ≡ byte (storage_of j) b
+abbrev pub HoldsInitialByte : Job → ℕ → Moment → Type 0
+HoldsInitialByte j b m = byte m.storage b ≡ byte (storage_of j) b
 
 -- what one of these runs uses never changes, in any of them
 abbrev pub AreSteady : Job → (List Moment → Type 0) → Type 0
 AreSteady j R =
-    (used run : List Moment) (b : ℕ) → R used → Uses used b → R run → AllByRecursion (Holds j b) run
+    (used run : List Moment) (b : ℕ) → R used → Uses used b → R run
+    → AllByRecursion (HoldsInitialByte j b) run
 
 -- the job is steady: what some run uses never changes, in any run
 abbrev pub IsSteady : Job → Type 0
@@ -101,7 +102,7 @@ EachMomentOfYes P =
 
 -- guarded bytes never change
 abbrev pub GuardedStays : Type 0
-GuardedStays = EachMomentOfYes (λ j m. (b : ℕ) → IsGuarded j b → Holds j b m)
+GuardedStays = EachMomentOfYes (λ j m. (b : ℕ) → IsGuarded j b → HoldsInitialByte j b m)
 
 -- a stage's place is reachable
 abbrev pub IsAtReachable : Job → Stage → Type 0
@@ -115,8 +116,8 @@ StaysReachable = EachMomentOfYes (λ j m. IsAtReachable j m.stage)
 
 -- at p the data chain goes on with the CCW at a: p is there, or at a transfer in channel that leads
 -- there
-abbrev pub ComesTo : List ℕ → Place → ℕ → Type 0
-ComesTo s p a =
+abbrev pub ChainComesTo : List ℕ → Place → ℕ → Type 0
+ChainComesTo s p a =
     (p.address ≡ a) ⊎ ((p.after_transfer ≡ false) × Stands s p.address
     × (is_transfer (ccw s p.address) ≡ true) × ((ccw s p.address).address ≡ a))
 
@@ -126,7 +127,7 @@ pub record IsGathered (s l : List ℕ) (p : Place) (x : List ℕ) : Type 0 where
   pub before : List ℕ
   pub rest : List ℕ
   pub at : ℕ
-  pub leads : ComesTo s p at
+  pub leads : ChainComesTo s p at
   pub chain : IsChain s (6 - length before) at rest
   pub all : before ++ joined s rest ≡ joined s l
   pub few : length before < 6

@@ -2,7 +2,7 @@
 pub mod Job
 pub mod Place
 pub mod Reason
-pub mod Check
+pub mod ProgramCheck
 pub mod Argument
 pub mod Fault
 pub mod Successor
@@ -16,7 +16,7 @@ pub mod Runs
 pub mod Headline
 pub mod Alarm
 pub mod Harm
-pub mod Counted
+pub mod VerdictBytes
 pub mod Order
 pub mod OpenJob
 -- What the answers say: places, offences, paths, and what is moved.
@@ -31,7 +31,7 @@ pub mod Moved
 -- What only ties the code to all this.
 pub mod Direction
 pub mod Visit
-pub mod Read
+pub mod Operand
 pub mod Evidence
 pub mod Tables
 pub mod Marks

@@ -13,7 +13,7 @@ use Rattle.chan_walk.specs.declared.place.Entry.{Entry}
 use Rattle.chan_walk.specs.declared.place.Entry.TheVariants.{Fresh}
 use Rattle.chan_walk.specs.declared.place.Place.{Place}
 use Rattle.chan_walk.specs.declared.reason.Reason.{Reason}
-use Rattle.chan_walk.specs.Check.{check}
+use Rattle.chan_walk.specs.ProgramCheck.{program_check}
 use Rattle.chan_walk.specs.Fault.{kind_of, is_known, begins_seek, begins_recalibrate}
 use Rattle.chan_walk.specs.Fault.{begins_set_mask}
 use Rattle.chan_walk.specs.Place.{is_fresh, straight_to, transferred_to}
@@ -48,14 +48,14 @@ pub record IsStored (s : List ℕ) (a : ℕ) (bytes t : List ℕ) : Type 0 where
 
 -- what m bytes of data do to storage, by the kind of the operation: any bytes may be stored, and
 -- the channel may fetch ahead
-pub data Moves (c : Fields) (m : ℕ) (s : List ℕ) : Kind → List Event → List ℕ → Type 0 where
-  idle : m ≡ 0 → Moves c m s Idle [] s
-  skipped : skips c ≡ true → Moves c m s Inward [] s
+pub data MovesData (c : Fields) (m : ℕ) (s : List ℕ) : Kind → List Event → List ℕ → Type 0 where
+  idle : m ≡ 0 → MovesData c m s Idle [] s
+  skipped : skips c ≡ true → MovesData c m s Inward [] s
   stored : {bytes t : List ℕ} → skips c ≡ false → length bytes ≡ m
       → AllByRecursion (λ b. b < 256) bytes → IsStored s c.address bytes t
-      → Moves c m s Inward (Store c.address bytes ∷ []) t
-  written : Moves c m s Outward (Fetch c.address c.count ∷ []) s
-  searched : Moves c m s Search (Fetch c.address c.count ∷ []) s
+      → MovesData c m s Inward (Store c.address bytes ∷ []) t
+  written : MovesData c m s Outward (Fetch c.address c.count ∷ []) s
+  searched : MovesData c m s Search (Fetch c.address c.count ∷ []) s
 
 -- the addresses of those of the m bytes that a seek takes that has x, up to six in all
 abbrev pub taken : Fields → ℕ → List ℕ → List ℕ
@@ -125,21 +125,21 @@ command_event p c = if is_fresh p.entered then Command c.command ∷ [] else []
 -- what it wants of them, Recalibrate seeks, Set File Mask takes the first, and the program goes on
 pub data Step (s : List ℕ) (y f : ℕ) (p : Place) (g : Gathered)
     : List Event → List ℕ → ℕ → ℕ → Stage → Type 0 where
-  checked : {r : Reason} → check s p ≡ Some r → Step s y f p g [] s y f (Checked r)
+  checked : {r : Reason} → program_check s p ≡ Some r → Step s y f p g [] s y f (Checked r)
   transferred :
-      check s p ≡ None → is_transfer (ccw s p.address) ≡ true →
+      program_check s p ≡ None → is_transfer (ccw s p.address) ≡ true →
       Step s y f p g [] s y f (At (transferred_to (ccw s p.address).address p.entered) g)
   unknown :
-      check s p ≡ None → is_transfer (ccw s p.address) ≡ false →
+      program_check s p ≡ None → is_transfer (ccw s p.address) ≡ false →
       is_fresh p.entered ≡ true → is_known (ccw s p.address).command ≡ false →
       Step s y f p g (Command (ccw s p.address).command ∷ []) s y f Ended
   carried :
       {t : List ℕ} {y' y'' f' : ℕ} {g' : Gathered} {moved sought homed set went : List Event}
       {stage : Stage} {m : ℕ} →
-      check s p ≡ None → is_transfer (ccw s p.address) ≡ false →
+      program_check s p ≡ None → is_transfer (ccw s p.address) ≡ false →
       (is_fresh p.entered ≡ true → is_known (ccw s p.address).command ≡ true) →
       m ≤ (ccw s p.address).count →
-      Moves (ccw s p.address) m s (kind_of p.entered (ccw s p.address)) moved t →
+      MovesData (ccw s p.address) m s (kind_of p.entered (ccw s p.address)) moved t →
       Seeks (ccw s p.address) m s y (under_way p (ccw s p.address) g) sought y' g' →
       Recalibration y' (begins_recalibrate p (ccw s p.address)) homed y'' →
       SetsMask (ccw s p.address) m s f (begins_set_mask p (ccw s p.address)) set f' →

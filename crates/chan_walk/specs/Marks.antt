@@ -29,13 +29,13 @@ abbrev pub place_at : ℕ → ℕ → Place
 place_at a w = record { address = a; entered = entry_numbered (w / 2); after_transfer = w % 2 == 1 }
 
 -- the marks, none where there is no entry
-abbrev pub or_none : Option ℕ → ℕ
-or_none None = 0
-or_none (Some m) = m
+abbrev pub marks_or_none : Option ℕ → ℕ
+marks_or_none None = 0
+marks_or_none (Some m) = m
 
 -- the marks of an address
 abbrev pub marks_of : BTreeMap ℕ ℕ → ℕ → ℕ
-marks_of m a = or_none (tree.get nat_cmp m a)
+marks_of m a = marks_or_none (tree.get nat_cmp m a)
 
 -- the place is marked
 abbrev pub HasMark : BTreeMap ℕ ℕ → Place → Type 0

@@ -12,14 +12,14 @@ use Rattle.chan_walk.specs.Place.{ccw_of, data_at, data_of}
 use Rattle.chan_walk.specs.Reachable.{IsReachable}
 
 -- a CCW stands at p and, entered as p is, passes the test, whether or not p has an own fault
-abbrev pub Passes : (Place → Fields → Bool) → Job → Place → Type 0
-Passes test j p = Stands (storage_of j) p.address × (test p (ccw_of j p) ≡ true)
+abbrev pub PassesTest : (Place → Fields → Bool) → Job → Place → Type 0
+PassesTest test j p = Stands (storage_of j) p.address × (test p (ccw_of j p) ≡ true)
 
 -- the byte at b is in the data range of a reachable CCW that passes the test
 pub record IsDataOf (test : Place → Fields → Bool) (j : Job) (b : ℕ) : Type 0 where
   pub place : Place
   pub reached : IsReachable j place
-  pub passes : Passes test j place
+  pub passes : PassesTest test j place
   pub from : (data_at j place).start ≤ b
   pub below : b < end_of (data_at j place)
 

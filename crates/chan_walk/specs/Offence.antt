@@ -21,8 +21,8 @@ use Rattle.chan_walk.specs.Reason.{number_of}
 use Rattle.chan_walk.specs.Verdict.{Offends, IsVerdict}
 
 -- p has this own fault
-abbrev pub IsOwn : Job → Place → Reason → Type 0
-IsOwn j p r = HasFault j p (Some r)
+abbrev pub HasOwnFault : Job → Place → Reason → Type 0
+HasOwnFault j p r = HasFault j p (Some r)
 
 -- the place is reachable, and offends by the reason
 abbrev pub Offending : Job → Offence → Type 0
@@ -40,7 +40,7 @@ seen_offence l r = record { place = l.place; reason = r }
 -- the list has exactly the job's offences, each once
 pub record AreAllOffences (j : Job) (os : List Offence) : Type 0 where
   pub exactly : (o : Offence) → Has os o ↔ Offending j o
-  pub apart : AreDistinct os
+  pub distinct : AreDistinct os
 
 -- and in order
 pub record AreOffences (j : Job) (os : List Offence) : Type 0 where
@@ -66,13 +66,13 @@ pub record AddsOffences (Off : Place → Reason → Type 0) (p : Place) (old new
   pub more : List Offence
   pub is : new ≡ old ++ more
   pub exactly : (o : Offence) → Has more o ↔ ((o.place ≡ p) × Off p o.reason)
-  pub apart : AreDistinct more
+  pub distinct : AreDistinct more
 
 -- the list has exactly the offences of this kind among the places, each once
 pub record HasOffences (Off : Place → Reason → Type 0) (ps : List Place) (os : List Offence)
     : Type 0 where
   pub exactly : (o : Offence) → Has os o ↔ (Has ps o.place × Off o.place o.reason)
-  pub apart : AreDistinct os
+  pub distinct : AreDistinct os
 
 -- the CCW that was seen stores into some area of the list
 pub record StoresInto (l : Seen) (areas : List Area) : Type 0 where

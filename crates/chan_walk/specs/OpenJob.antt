@@ -3,7 +3,7 @@ use Rattle.std.specs.Prelude.{◌≡◌, ℕ, ◌<◌, true, List, [], ◌∷◌
 use Rattle.ccw_core.specs.declared.areas.Area.{Area}
 use Rattle.ccw_core.specs.Areas.{lies_in}
 use Rattle.ccw_core.specs.Held.{bytes_held}
-use Rattle.ckd_core.specs.Extents.{has_cylinder}
+use Rattle.ckd_core.specs.Extents.{has_cylinder, all_cylinders}
 use Rattle.ckd_core.specs.Mask.{is_at_least}
 use Rattle.chan_walk.specs.declared.job.Job.{Job}
 use Rattle.chan_walk.specs.declared.open_job.OpenJob.{OpenJob}
@@ -29,7 +29,7 @@ all_storage j = (record { start = 0; len = length (storage_of j) }) ∷ []
 abbrev pub open_job : Job → Job
 open_job j = record j {
   mask = 0xC0;
-  extents = record (j.extents) { now = (0, 202) ∷ [] };
+  extents = record (j.extents) { now = all_cylinders };
   fetch = record (j.fetch) { now = all_storage j };
   store = record (j.store) { now = all_storage j };
 }
@@ -62,7 +62,7 @@ SameUnderYes =
 pub record IsOpenJob (j k : Job) : Type 0 where
   pub program : AreOfOneProgram j k
   pub mask : k.mask ≡ 0xC0
-  pub extents : extents_of k ≡ (0, 202) ∷ []
+  pub extents : extents_of k ≡ all_cylinders
   pub fetch : fetch_of k ≡ all_storage j
   pub store : store_of k ≡ all_storage j
   pub limit : k.limit ≡ j.limit
@@ -73,7 +73,7 @@ pub record HoldsOpenJob (j : Job) (o : OpenJob) : Type 0 where
   pub start : o.start ≡ j.start
   pub device : o.device ≡ j.device
   pub mask : o.mask ≡ 0xC0
-  pub extents : o.extents ≡ (0, 202) ∷ []
+  pub extents : o.extents ≡ all_cylinders
   pub areas : o.areas ≡ all_storage j
   pub limit : o.limit ≡ j.limit
 

@@ -5,7 +5,7 @@ use Rattle.ccw_core.specs.Ccw.{Fields, is_transfer}
 use Rattle.chan_walk.specs.declared.job.Job.{Job}
 use Rattle.chan_walk.specs.declared.place.Place.{Place}
 use Rattle.chan_walk.specs.declared.reason.Reason.{Reason}
-use Rattle.chan_walk.specs.Check.{first_reason, table_of_every_ccw, table_of_non_transfer}
+use Rattle.chan_walk.specs.ProgramCheck.{first_reason, table_of_every_ccw, table_of_non_transfer}
 use Rattle.chan_walk.specs.Fault.{table_of_own, fault_with}
 use Rattle.chan_walk.specs.Job.{storage_of}
 use Rattle.chan_walk.specs.Place.{ccw_of}

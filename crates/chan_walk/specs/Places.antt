@@ -48,6 +48,6 @@ AreDistinct (p ∷ ps) = (Has ps p → ⊥) × AreDistinct ps
 -- there are more than n reachable places
 pub record HasMoreThan (j : Job) (n : ℕ) : Type 0 where
   pub places : List Place
-  pub apart : AreDistinct places
+  pub distinct : AreDistinct places
   pub many : n < length places
   pub only : (p : Place) → Has places p → IsReachable j p

@@ -24,8 +24,8 @@ abbrev pub IsAmong : Next → Place → Type 0
 IsAmong n q = (n.next ≡ Some q) ⊎ (n.skip ≡ Some q)
 
 -- exactly the places of the list are marked
-abbrev pub Agrees : BTreeMap ℕ ℕ → List Place → Type 0
-Agrees m ps = (p : Place) → HasMark m p ↔ Has ps p
+abbrev pub MarksAgree : BTreeMap ℕ ℕ → List Place → Type 0
+MarksAgree m ps = (p : Place) → HasMark m p ↔ Has ps p
 
 -- one mark more
 abbrev pub Marks : BTreeMap ℕ ℕ → BTreeMap ℕ ℕ → Place → Type 0
@@ -33,29 +33,29 @@ Marks m n q = (p : Place) → HasMark n p ↔ (HasMark m p ⊎ (q ≡ p))
 
 -- qs is ps with the place o at its end, where there is one and ps has it not yet, and gs is then fs
 -- with the index from at its end; qs has no more than n places then
-abbrev pub Adds : ℕ → Option Place → ℕ → List Place → List Place → List ℕ → List ℕ → Type 0
-Adds n None from ps qs fs gs = (qs ≡ ps) × (gs ≡ fs)
-Adds n (Some p) from ps qs fs gs =
+abbrev pub AddsPlace : ℕ → Option Place → ℕ → List Place → List Place → List ℕ → List ℕ → Type 0
+AddsPlace n None from ps qs fs gs = (qs ≡ ps) × (gs ≡ fs)
+AddsPlace n (Some p) from ps qs fs gs =
     (Has ps p × (qs ≡ ps) × (gs ≡ fs))
     ⊎ ((Has ps p → ⊥) × (qs ≡ ps ++ p ∷ []) × (length ps < n) × (gs ≡ fs ++ from ∷ []))
 
 -- there is a place, ps has it not yet, and there is no room for it
-abbrev pub Overflows : ℕ → Option Place → List Place → Type 0
-Overflows n None ps = ⊥
-Overflows n (Some p) ps = (Has ps p → ⊥) × (n ≤ length ps)
+abbrev pub HasNoRoomFor : ℕ → Option Place → List Place → Type 0
+HasNoRoomFor n None ps = ⊥
+HasNoRoomFor n (Some p) ps = (Has ps p → ⊥) × (n ≤ length ps)
 
 -- the places found are reachable, each is found once, no more than n, and the successors of the
 -- first i are among them
 pub record IsWalked (j : Job) (n : ℕ) (ps : List Place) (i : ℕ) : Type 0 where
   pub few : length ps ≤ n
   pub within : i ≤ length ps
-  pub apart : AreDistinct ps
+  pub distinct : AreDistinct ps
   pub begins : Has ps (first_place j)
   pub only : (p : Place) → Has ps p → IsReachable j p
   pub closed : (k : ℕ) (p q : Place) → k < i → slice_get ps k ≡ Some p → Follows j p q → Has ps q
 
 -- the place of index k, after the first, was found from an earlier one, which is among the first n
-pub record IsFrom (j : Job) (ps : List Place) (fs : List ℕ) (n k : ℕ) : Type 0 where
+pub record IsFoundFrom (j : Job) (ps : List Place) (fs : List ℕ) (n k : ℕ) : Type 0 where
   pub parent : Place
   pub child : Place
   pub there : slice_get ps (slice_index fs k) ≡ Some parent
@@ -84,7 +84,7 @@ IsFoundBy ps fs k q = (l : ℕ) × (slice_get ps l ≡ Some q) × (0 < l → sli
 pub record IsTraced (j : Job) (ps : List Place) (fs : List ℕ) (i n : ℕ) : Type 0 where
   pub each : length fs ≡ length ps
   pub begins : slice_get ps 0 ≡ Some (first_place j)
-  pub from : (k : ℕ) → 0 < k → k < length ps → IsFrom j ps fs n k
+  pub from : (k : ℕ) → 0 < k → k < length ps → IsFoundFrom j ps fs n k
   pub rising : (k l : ℕ) → 0 < k → k ≤ l → l < length ps → slice_index fs k ≤ slice_index fs l
   pub siblings : (k l : ℕ) → 0 < k → k < l → l < length ps → slice_index fs k ≡ slice_index fs l
       → AreSiblings j ps (slice_index fs k) k l
@@ -101,7 +101,7 @@ pub record HasFound (j : Job) (ls : List Seen) (fs : List ℕ) : Type 0 where
   pub traced : IsTraced j (places_of_looks ls) fs at at
 
 -- before lead to the place at k, and no place from there on has a path that comes before this one
-pub record IsBest (j : Job) (ps : List Place) (k : ℕ) (p : Place) (before : List Place)
+pub record IsBestPath (j : Job) (ps : List Place) (k : ℕ) (p : Place) (before : List Place)
     : Type 0 where
   pub here : slice_get ps k ≡ Some p
   pub path : IsPath j (p ∷ before)

@@ -4,16 +4,17 @@
 ghost use Rattle.std.specs.Prelude.{◌≡◌, ◌&&◌, not, ◌+◌, ◌<◌, ◌≤◌, ◌^◌, ◌⊎◌, ℕ, true, false};
 ghost use Rattle.std.specs.Prelude.{length, slice_index, IfSome, IfNone, Some, None};
 ghost use Rattle.ccw_core.specs.Ccw.{byte, ccw as held_ccw, chains_data as chained, is_transfer};
-ghost use Rattle.ccw_core.specs.Ccw.{is_counted as counted, has_data_in as data_in};
+ghost use Rattle.ccw_core.specs.Ccw.{has_count as counted, has_data_in as data_in};
 ghost use Rattle.ccw_core.specs.Ccw.{is_formed as formed};
 ghost use Rattle.ccw_core.specs.Held.{bytes_held};
 ghost use Rattle.ccw_core.specs.Storage.{ccw_at as ccw_in};
 ghost use Rattle.chan_walk.specs.Argument.{HasArgument, is_part};
-ghost use Rattle.chan_walk.specs.Read as reads;
-ghost use Rattle.chan_walk.specs.Read.{AreZeroFrom, IsFrontOf, AreOfArgument, IsRead};
+ghost use Rattle.chan_walk.specs.Operand as reads;
+ghost use Rattle.chan_walk.specs.Operand.{AreZeroFrom, IsFrontOf, AreOfArgument, IsOperand};
 ghost use Rattle.chan_walk.specs.Visit.{IsVisit};
+ghost use Rattle.ccw_core.specs.declared.ccw.TheConstants.{STORAGE_LIMIT};
 
-use crate::bits::{has_data_in, is_counted, is_formed};
+use crate::bits::{has_count, has_data_in, is_formed};
 use crate::visit::Visit;
 use ccw_core::{Ccw, Storage};
 
@@ -48,7 +49,7 @@ impl GivenBytes {
 
 /// What was read of the argument of the operation that begins at a place.
 #[derive(Clone, Copy)]
-pub enum Read {
+pub enum Operand {
     /// Neither a seek nor Set File Mask begins there.
     Nothing,
     /// What the seek's data chain gives of its argument: fewer than six bytes.
@@ -59,13 +60,13 @@ pub enum Read {
     Mask { at: [u32; 1], byte: u8 },
 }
 
-impl Read {
+impl Operand {
     /// The whole argument of a seek, if it was read.
     pub fn whole(self) -> Option<GivenBytes>
         ensures { result ≡ reads.whole_of self }
     {
         match self {
-            Read::Whole(given) => Some(given),
+            Operand::Whole(given) => Some(given),
             _ => None,
         }
     }
@@ -75,18 +76,18 @@ impl Read {
         ensures { result ≡ reads.byte_of self }
     {
         match self {
-            Read::Mask { byte, .. } => byte,
+            Operand::Mask { byte, .. } => byte,
             _ => 0,
         }
     }
 
     /// The addresses of the bytes of a whole argument.
     pub(crate) fn addresses(&self) -> &[u32]
-        ensures { result.now ≡ reads.addresses_in self.now }
+        ensures { result.now ≡ reads.operand_addresses self.now }
     {
         match self {
-            Read::Whole(given) => &given.addresses,
-            Read::Mask { at, .. } => at,
+            Operand::Whole(given) => &given.addresses,
+            Operand::Mask { at, .. } => at,
             _ => &[],
         }
     }
@@ -104,7 +105,7 @@ fn gives_bytes(storage: &Storage, ccw: &Ccw) -> bool
     ensures { result ≡ (not (is_transfer ccw.now) && formed ccw.now && counted ccw.now
         && data_in (length (bytes_held storage.now)) ccw.now) }
 {
-    !ccw.is_transfer() && is_formed(ccw) && is_counted(ccw) && has_data_in(storage, ccw)
+    !ccw.is_transfer() && is_formed(ccw) && has_count(ccw) && has_data_in(storage, ccw)
 }
 
 /// What a CCW gives of an argument: bytes in a row.
@@ -120,7 +121,7 @@ fn part_at(storage: &Storage, address: u32, ccw: Ccw) -> Option<Part>
     requires { ccw_in (bytes_held storage.now) address ≡ Some ccw }
     ensures part { IfSome result (λ _. is_part (bytes_held storage.now) address ≡ true) }
     ensures inside { IfSome result (λ _. address < 2 ^ 25) }
-    ensures range { IfSome result (λ part. part.from + part.count ≤ 2 ^ 24) }
+    ensures range { IfSome result (λ part. part.from + part.count ≤ STORAGE_LIMIT) }
     ensures some { IfSome result (λ part. 0 < part.count) }
     ensures from { IfSome result
         (λ part. part.from ≡ (held_ccw (bytes_held storage.now) address).address) }
@@ -168,7 +169,7 @@ fn onward(storage: &Storage, address: u32, ccw: Ccw) -> Option<Link>
 /// Notes the addresses of some bytes in a row, from the place `have` on.
 fn note(addresses: &mut [u32; 6], have: usize, from: u32, count: usize)
     requires room { have + count ≤ 6 }
-    requires range { from + count ≤ 2 ^ 24 }
+    requires range { from + count ≤ STORAGE_LIMIT }
     requires size { length addresses.old ≡ 6 }
     ensures size { length addresses.new ≡ 6 }
     ensures before { (i : ℕ) → i < have → slice_index addresses.new i
@@ -256,26 +257,26 @@ fn gather(storage: &Storage, address: u32, ccw: Ccw) -> GivenBytes
 
 /// What is read of the argument of the seek or the Set File Mask that begins at a place, if one
 /// does: each of its bytes is read here, and nowhere else.
-pub(crate) fn read_argument(storage: &Storage, visit: &Visit) -> Read
+pub(crate) fn read_operand(storage: &Storage, visit: &Visit) -> Operand
     requires { IsVisit (bytes_held storage.now) visit.now }
-    ensures read { IsRead (bytes_held storage.now) visit.now.place visit.now.ccw result }
-    ensures low { visit.now.ccw.address < 2 ^ 24 }
+    ensures operand { IsOperand (bytes_held storage.now) visit.now.place visit.now.ccw result }
+    ensures low { visit.now.ccw.address < STORAGE_LIMIT }
 {
     let address = visit.ccw.address();
     if visit.begins_seek() {
         let given = gather(storage, visit.place.address, visit.ccw);
         if given.count == 6 {
-            return Read::Whole(given);
+            return Operand::Whole(given);
         }
-        return Read::Short(given);
+        return Operand::Short(given);
     }
     if visit.begins_set_mask() {
-        return Read::Mask {
+        return Operand::Mask {
             at: [address],
             byte: storage.byte_at(address),
         };
     }
-    Read::Nothing
+    Operand::Nothing
 }
 
 /// The argument of a seek at an address: the first six bytes of the joined data ranges of the data

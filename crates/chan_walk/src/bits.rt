@@ -31,9 +31,9 @@ pub(crate) fn is_invalid(ccw: &Ccw) -> bool
 }
 
 /// The count, which may not be zero, is not zero.
-#[tactic(auto, unfolding(ccw_core::specs::Ccw::is_counted))]
-pub(crate) fn is_counted(ccw: &Ccw) -> bool
-    ensures { result ≡ specs.is_counted ccw.now }
+#[tactic(auto, unfolding(ccw_core::specs::Ccw::has_count))]
+pub(crate) fn has_count(ccw: &Ccw) -> bool
+    ensures { result ≡ specs.has_count ccw.now }
 {
     ccw.count() > 0
 }

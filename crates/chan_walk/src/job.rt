@@ -36,6 +36,7 @@ impl Job<'_> {
     pub fn show_proper(&self)
         ensures { IsProper self.now }
     {
+        // For the checker alone: the contracts of these calls say so.
         let _extents = self.extents.pairs();
         let _mask = self.mask.byte();
     }

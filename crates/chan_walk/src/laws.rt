@@ -3,8 +3,8 @@
 
 ghost use Rattle.chan_walk.specs.Alarm.{EachPathIsRun, EachPathShows, GuardedIsUsed};
 ghost use Rattle.chan_walk.specs.Alarm.{HeadlineAloneIsEnough, NoFalseAlarm, SafeIsYes, StaysSafe};
-ghost use Rattle.chan_walk.specs.Counted.{CountedIsGuarded, SafeSinceAsked, SameVerdict};
-ghost use Rattle.chan_walk.specs.Counted.{YesByGuarded, YesStays};
+ghost use Rattle.chan_walk.specs.VerdictBytes.{VerdictByteIsGuarded, SafeSinceAsked, SameVerdict};
+ghost use Rattle.chan_walk.specs.VerdictBytes.{YesByGuarded, YesStays};
 ghost use Rattle.chan_walk.specs.Harm.{HarmlessIsSafe, NoIsHarm, ShownBreaks};
 ghost use Rattle.chan_walk.specs.Headline.{GathersArguments, GuardedStays, StaysReachable};
 ghost use Rattle.chan_walk.specs.Headline.{YesIsSafe, YesIsSafeAmong};
@@ -114,14 +114,14 @@ pub(crate) fn numbers_increase()
     ensures { NumbersIncrease }
 {}
 
-/// The verdict depends on nothing in storage but its length and the bytes that count.
+/// The verdict depends on nothing in storage but its length and the verdict bytes.
 pub(crate) fn same_verdict()
     ensures { SameVerdict }
 {}
 
-/// Under a yes each byte that counts is guarded.
-pub(crate) fn counted_is_guarded()
-    ensures { CountedIsGuarded }
+/// Under a yes each verdict byte is guarded.
+pub(crate) fn verdict_byte_is_guarded()
+    ensures { VerdictByteIsGuarded }
 {}
 
 /// A yes depends on nothing in storage but its length and the guarded bytes.

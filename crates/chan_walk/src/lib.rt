@@ -37,7 +37,7 @@ mod verdict;
 mod visit;
 mod walk;
 
-pub use crate::argument::{GivenBytes, Read, seek_argument};
+pub use crate::argument::{GivenBytes, Operand, seek_argument};
 pub use crate::direction::Direction;
 pub use crate::error::WalkError;
 pub use crate::evidence::{Evidence, Outside};
@@ -47,7 +47,7 @@ pub use crate::job_survey::Survey;
 pub use crate::judgement::{survey, verify};
 pub use crate::limit::Limit;
 pub use crate::look::{Look, fault_at, look_at, successors};
-pub use crate::moved::{data_moved, kept};
+pub use crate::moved::{data_moved, guarded_areas};
 pub use crate::offence::Offence;
 pub use crate::open_job::OpenJob;
 pub use crate::place::{Entry, Place, data_of, first_place};

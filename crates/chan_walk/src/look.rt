@@ -10,7 +10,7 @@ ghost use Rattle.chan_walk.specs.Lending.{Lends};
 ghost use Rattle.chan_walk.specs.Look.{IsLook, argument_seen};
 ghost use Rattle.chan_walk.specs.Successor.{AreSuccessors};
 
-use crate::argument::{Read, read_argument};
+use crate::argument::{Operand, read_operand};
 use crate::direction::Direction;
 use crate::evidence::Evidence;
 use crate::fault::{fault_without_ccw, own_fault};
@@ -28,7 +28,7 @@ use std::marker::Model;
 #[derive(Clone, Copy)]
 enum Finding {
     Faulty(Evidence),
-    Clear { next: Next, read: Read },
+    Clear { next: Next, operand: Operand },
 }
 
 /// A place as it is seen at one look, in the initial storage.
@@ -44,7 +44,7 @@ pub struct Look {
 impl Model for Look {
     ghost use Rattle.std.specs.Prelude.{option_map};
     ghost use Rattle.ckd_core.specs.Entries.{entry_of};
-    ghost use Rattle.chan_walk.specs.Look.{Seen, fault_in, next_in, read_in};
+    ghost use Rattle.chan_walk.specs.Look.{Seen, fault_in, next_in, operand_in};
 
     ghost Value = { Seen };
 
@@ -55,7 +55,7 @@ impl Model for Look {
       direction = l.direction;
       fault = fault_in l.finding;
       next = next_in l.finding;
-      read = read_in l.finding;
+      operand = operand_in l.finding;
     } };
 }
 
@@ -115,12 +115,12 @@ impl Look {
 
     /// What was read of the argument of the seek or Set File Mask that begins here. Nothing for
     /// other commands, and if the place has an own fault.
-    pub fn read(&self) -> Read
-        ensures { result ≡ self.now.read }
+    pub fn operand(&self) -> Operand
+        ensures { result ≡ self.now.operand }
     {
         match self.finding {
-            Finding::Faulty(_) => Read::Nothing,
-            Finding::Clear { read, .. } => read,
+            Finding::Faulty(_) => Operand::Nothing,
+            Finding::Clear { operand, .. } => operand,
         }
     }
 
@@ -131,7 +131,7 @@ impl Look {
     {
         match &self.finding {
             Finding::Faulty(_) => &[],
-            Finding::Clear { read, .. } => read.addresses(),
+            Finding::Clear { operand, .. } => operand.addresses(),
         }
     }
 }
@@ -159,12 +159,12 @@ fn look_at_ccw(job: &Job, lending: Lending, place: Place, ccw: Ccw) -> Look
     ensures look { IsLook job.now result }
 {
     let visit = Visit::new(place, ccw);
-    let read = read_argument(&job.storage, &visit);
-    let finding = match own_fault(job, lending, &visit, read) {
+    let operand = read_operand(&job.storage, &visit);
+    let finding = match own_fault(job, lending, &visit, operand) {
         Some(evidence) => Finding::Faulty(evidence),
         None => Finding::Clear {
             next: next_after(&visit),
-            read,
+            operand,
         },
     };
     Look {

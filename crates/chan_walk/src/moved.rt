@@ -47,7 +47,7 @@ fn add_range(ranges: &mut Vec<Area>, look: &Look, is_so: bool) -> Result<(), All
 }
 
 /// The guarded bytes, as a merged list.
-pub fn kept(alloc: Global, guard: &Guard) -> Result<Merged, AllocError>
+pub fn guarded_areas(alloc: Global, guard: &Guard) -> Result<Merged, AllocError>
     ensures { IfOk result (λ m. (j : Job) → Guards j guard.now → AreExactly (IsGuarded j) m) }
 {
     let mut areas = Vec::new(alloc);

@@ -3,15 +3,13 @@
 ghost use Rattle.std.specs.Prelude.{◌≡◌, ◌↔◌, map, IfOk, IsTrue, OnOk};
 ghost use Rattle.std.specs.List.Sorted.{IsStrictlyIncreasing};
 ghost use Rattle.chan_walk.specs.Argument.{Has};
-ghost use Rattle.chan_walk.specs.Places.{AreDistinct};
+ghost use Rattle.chan_walk.specs.Places.{AreDistinct, AreReached};
 ghost use Rattle.chan_walk.specs.Guard.{Guards};
-ghost use Rattle.chan_walk.specs.Offence.{IsOwn};
-ghost use Rattle.chan_walk.specs.Places.{AreReached};
+ghost use Rattle.chan_walk.specs.Offence.{HasOwnFault, AddsOffences, AreAllOffences, AreOffences};
 ghost use Rattle.chan_walk.specs.Look.{AreLooks, IsLook, places_of_looks};
 ghost use Rattle.chan_walk.specs.Offence as listed;
-ghost use Rattle.chan_walk.specs.Offence.{AddsOffences, AreAllOffences, AreOffences, HasOffences};
-ghost use Rattle.chan_walk.specs.Offence.{StoresInto};
-ghost use Rattle.chan_walk.specs.Verdict.{AreClear, Changes};
+ghost use Rattle.chan_walk.specs.Offence.{HasOffences, StoresInto};
+ghost use Rattle.chan_walk.specs.Verdict.{AreClear, ChangesGuarded};
 ghost use Rattle.chan_walk.specs.declared.job.Job.{Job};
 ghost use Rattle.chan_walk.specs.declared.offence.Offence as declared;
 
@@ -53,7 +51,7 @@ pub(crate) fn offences_of(
 ) -> Result<Vec<Offence>, AllocError>
     requires looks { (j : Job) × AreLooks j looks.now × AreReached j (places_of_looks looks.now)
         × Guards j guard.now }
-    requires apart { AreDistinct (places_of_looks looks.now) }
+    requires distinct { AreDistinct (places_of_looks looks.now) }
     ensures { IfOk result (λ v. (j : Job) → AreLooks j looks.now
         → AreReached j (places_of_looks looks.now) → Guards j guard.now → AreOffences j v.items) }
 {
@@ -80,7 +78,7 @@ fn unordered(alloc: Global, guard: &Guard, looks: &[Look]) -> Result<Vec<Offence
 fn faults_of(alloc: Global, looks: &[Look]) -> Result<Vec<Offence>, AllocError>
     requires { AreDistinct (places_of_looks looks.now) }
     ensures { IfOk result (λ v. (j : Job) → AreLooks j looks.now
-        → HasOffences (IsOwn j) (places_of_looks looks.now) v.items) }
+        → HasOffences (HasOwnFault j) (places_of_looks looks.now) v.items) }
 {
     let mut faults = Vec::new(alloc);
     for look in looks {
@@ -92,7 +90,7 @@ fn faults_of(alloc: Global, looks: &[Look]) -> Result<Vec<Offence>, AllocError>
 /// Adds the own fault of a place, if it has one.
 fn add_fault(faults: &mut Vec<Offence>, look: &Look) -> Result<(), AllocError>
     ensures { OnOk result ((j : Job) → IsLook j look.now
-        → AddsOffences (IsOwn j) look.now.place faults.old.items faults.new.items) }
+        → AddsOffences (HasOwnFault j) look.now.place faults.old.items faults.new.items) }
 {
     if let Some(evidence) = look.fault() {
         faults.push(Offence {
@@ -109,7 +107,7 @@ fn changes_of(alloc: Global, guard: &Guard, looks: &[Look]) -> Result<Vec<Offenc
     requires { AreDistinct (places_of_looks looks.now) }
     ensures { IfOk result (λ v. (j : Job) → AreLooks j looks.now
         → AreReached j (places_of_looks looks.now) → Guards j guard.now → AreClear j
-        → HasOffences (Changes j) (places_of_looks looks.now) v.items) }
+        → HasOffences (ChangesGuarded j) (places_of_looks looks.now) v.items) }
 {
     let mut changes = Vec::new(alloc);
     for look in looks {

@@ -13,7 +13,7 @@ use crate::job::Job;
 use crate::laws::open_job_is_open;
 use crate::limit::Limit;
 use ccw_core::{Area, Storage};
-use ckd_core::{Device, Extents, FileMask};
+use ckd_core::{Device, Extents, FileMask, LAST_CYLINDER};
 use std::alloc::{AllocError, Global};
 
 /// The open job of a program: no mask inhibits anything, the extents are all cylinders, and all of
@@ -42,7 +42,7 @@ impl<'a> OpenJob<'a> {
         ensures { IfOk result (λ o. (j : Job) → storage_of j ≡ bytes_held storage.entry
             → j.start ≡ start → j.device ≡ device → j.limit ≡ limit → HoldsOpenJob j o) }
     {
-        let extents = match Extents::new(alloc, &[(0, 202)]) {
+        let extents = match Extents::new(alloc, &[(0, LAST_CYLINDER)]) {
             Ok(extents) => extents,
             Err(_) => return Err(AllocError),
         };

@@ -2,12 +2,12 @@
 
 ghost use Rattle.std.specs.Prelude.{◌≡◌};
 ghost use Rattle.chan_walk.specs.Job.{storage_of};
-ghost use Rattle.chan_walk.specs.Read.{IsRead};
+ghost use Rattle.chan_walk.specs.Operand.{IsOperand};
 ghost use Rattle.chan_walk.specs.Setting.{IsSetting, setting_by};
 ghost use Rattle.chan_walk.specs.Visit.{IsVisit};
 
-use crate::argument::{Read, read_argument};
-use crate::fault::checked;
+use crate::argument::{Operand, read_operand};
+use crate::fault::program_check_at;
 use crate::job::Job;
 use crate::place::Place;
 use crate::visit::Visit;
@@ -34,7 +34,7 @@ pub fn setting_at(job: &Job, place: Place) -> Option<Setting>
         return None;
     };
     let visit = Visit::new(place, ccw);
-    // That names the type which a visit holds, for the borrow checker.
+    // For the checker alone: it asks for the type of what a visit holds.
     let _command = visit.command;
     setting_of(job, &visit)
 }
@@ -44,20 +44,20 @@ fn setting_of(job: &Job, visit: &Visit) -> Option<Setting>
     requires { IsVisit (storage_of job.now) visit.now }
     ensures { IsSetting job.now visit.now.place result }
 {
-    if checked(job, visit).is_some() {
+    if program_check_at(job, visit).is_some() {
         return None;
     }
-    match read_argument(&job.storage, visit) {
-        Read::Whole(given) => match Track::from_argument(given.bytes) {
+    match read_operand(&job.storage, visit) {
+        Operand::Whole(given) => match Track::from_argument(given.bytes) {
             Some(track) => Some(Setting::Arm(track)),
             None => None,
         },
-        Read::Short(_) => None,
-        Read::Mask { byte, .. } => Some(Setting::Mask(byte)),
-        Read::Nothing if visit.begins_recalibrate() => Some(Setting::Arm(Track {
+        Operand::Short(_) => None,
+        Operand::Mask { byte, .. } => Some(Setting::Mask(byte)),
+        Operand::Nothing if visit.begins_recalibrate() => Some(Setting::Arm(Track {
             cylinder: 0,
             head: 0,
         })),
-        Read::Nothing => None,
+        Operand::Nothing => None,
     }
 }

@@ -4,7 +4,8 @@ ghost use Rattle.std.specs.Prelude.{◌≡◌, ◌<◌, ◌≤◌, ◌+◌, ◌^
 ghost use Rattle.chan_walk.specs.Places.{AreReachable, HasMoreThan};
 ghost use Rattle.chan_walk.specs.Lent.{AreLent};
 ghost use Rattle.chan_walk.specs.Look.{AreLooks, places_of_looks};
-ghost use Rattle.chan_walk.specs.Walk.{Adds, Agrees, HasFound, IsTraced, IsWalked, Overflows};
+ghost use Rattle.chan_walk.specs.Walk.{AddsPlace, MarksAgree, HasFound, IsTraced, IsWalked};
+ghost use Rattle.chan_walk.specs.Walk.{HasNoRoomFor};
 
 use crate::error::WalkError;
 use crate::job::Job;
@@ -39,15 +40,15 @@ impl Walk {
     ) -> Result<(), WalkError>
         requires lent { AreLent job.now lent.now }
         requires looks { AreLooks job.now self.old.looks.items }
-        requires agrees { Agrees self.old.marks (places_of_looks self.old.looks.items) }
-        ensures ok { OnOk result (Adds job.now.limit place from
+        requires agrees { MarksAgree self.old.marks (places_of_looks self.old.looks.items) }
+        ensures ok { OnOk result (AddsPlace job.now.limit place from
             (places_of_looks self.old.looks.items) (places_of_looks self.new.looks.items)
             self.old.found_from.items self.new.found_from.items) }
         ensures looks { OnOk result (AreLooks job.now self.new.looks.items) }
         ensures agrees { OnOk result
-            (Agrees self.new.marks (places_of_looks self.new.looks.items)) }
+            (MarksAgree self.new.marks (places_of_looks self.new.looks.items)) }
         ensures many { result ≡ Err WalkError.TooManyPlaces
-            → Overflows job.now.limit place (places_of_looks self.old.looks.items) }
+            → HasNoRoomFor job.now.limit place (places_of_looks self.old.looks.items) }
     {
         if let Some(place) = place {
             let bits = bits_at(&self.marks, place.address);
@@ -67,7 +68,7 @@ impl Walk {
     fn add_successors(&mut self, job: &Job, lent: &Lent, at: usize) -> Result<(), WalkError>
         requires lent { AreLent job.now lent.now }
         requires looks { AreLooks job.now self.old.looks.items }
-        requires agrees { Agrees self.old.marks (places_of_looks self.old.looks.items) }
+        requires agrees { MarksAgree self.old.marks (places_of_looks self.old.looks.items) }
         requires walked { IsWalked job.now job.now.limit (places_of_looks self.old.looks.items) at }
         requires traced { IsTraced job.now (places_of_looks self.old.looks.items)
             self.old.found_from.items at at }
@@ -79,7 +80,7 @@ impl Walk {
             self.new.found_from.items (at + 1) (at + 1)) }
         ensures looks { OnOk result (AreLooks job.now self.new.looks.items) }
         ensures agrees { OnOk result
-            (Agrees self.new.marks (places_of_looks self.new.looks.items)) }
+            (MarksAgree self.new.marks (places_of_looks self.new.looks.items)) }
         ensures many { result ≡ Err WalkError.TooManyPlaces → HasMoreThan job.now job.now.limit }
     {
         let next = self.looks[at].next();
@@ -109,10 +110,10 @@ pub fn explore(alloc: Global, job: &Job) -> Result<Explored, WalkError>
 /// The walk over all reachable places, each of which is looked at once.
 pub(crate) fn walk_all(alloc: Global, job: &Job) -> Result<Walk, WalkError>
     ensures found { IfOk result (λ w. HasFound job.now w.looks.items w.found_from.items) }
-    ensures agrees { IfOk result (λ w. Agrees w.marks (places_of_looks w.looks.items)) }
+    ensures agrees { IfOk result (λ w. MarksAgree w.marks (places_of_looks w.looks.items)) }
     ensures many { result ≡ Err WalkError.TooManyPlaces → HasMoreThan job.now job.now.limit }
 {
-    // `get` tells that the limit is small, so that an index fits.
+    // For the checker alone: `get` says that the limit is small, so that an index fits.
     let _limit = job.limit.get();
     let lent = Lent::new(alloc, job)?;
     let mut walk = Walk {

@@ -11,7 +11,7 @@ use Rattle.chan_walk.specs.contracts.place.Entry.{the_type}
 use Rattle.chan_walk.specs.JobSurvey.{IsSurvey, Surveyed}
 use Rattle.chan_walk.specs.Look.{Seen, places_of_looks}
 use Rattle.chan_walk.specs.Place.{first_place}
-use Rattle.chan_walk.specs.Walk.{HasFound, IsBest}
+use Rattle.chan_walk.specs.Walk.{HasFound, IsBestPath}
 use Rattle.chan_why.specs.Path.{IsPathAt}
 use Rattle.chan_walk.proofs.Algorithms.Looking.{number_of_places}
 use Rattle.chan_walk.proofs.Algorithms.Tracing.{best_first, best_next}
@@ -25,7 +25,7 @@ pub record Ends (j : Job) (ps : List Place) (to : ℕ) (whole : List Place) : Ty
   pub last : Place
   pub before : List Place
   pub is : whole ≡ last ∷ before
-  pub best : IsBest j ps to last before
+  pub best : IsBestPath j ps to last before
 
 -- the path was read back from the index to up to the index at
 pub record IsWayBack (j : Job) (ps : List Place) (to at : ℕ) (path : List Place) : Type 0 where
@@ -33,7 +33,7 @@ pub record IsWayBack (j : Job) (ps : List Place) (to at : ℕ) (path : List Plac
   pub front : List Place
   pub is : path ≡ front ++ current ∷ []
   pub there : slice_get ps at ≡ Some current
-  pub goes : (rest : List Place) → IsBest j ps at current rest → Ends j ps to (front ++ current ∷ rest)
+  pub goes : (rest : List Place) → IsBestPath j ps at current rest → Ends j ps to (front ++ current ∷ rest)
 
 module _ (j : Job) (ls : List Seen) (fs : List ℕ) (f : HasFound j ls fs) where
   abbrev ps : List Place
@@ -48,7 +48,7 @@ module _ (j : Job) (ls : List Seen) (fs : List ℕ) (f : HasFound j ls fs) where
     there = e;
     goes = λ rest best.
         let r = b.goes (p ∷ rest)
-        (best_next j ps fs f.at f.traced f.all f.walked.apart (all_found j j.limit ps f.at f.walked f.all) at b.current p rest pos b.there best) in
+        (best_next j ps fs f.at f.traced f.all f.walked.distinct (all_found j j.limit ps f.at f.walked f.all) at b.current p rest pos b.there best) in
         record { last = r.last; before = r.before; is = append_assoc b.front (b.current ∷ []) (p ∷ rest) ∙ r.is; best = r.best };
   }
 
@@ -57,7 +57,8 @@ module _ (j : Job) (ls : List Seen) (fs : List ℕ) (f : HasFound j ls fs) where
       let same : ◌≡◌ {A = Option Place} (Some (first_place j)) (Some b.current) = sym f.traced.begins ∙ b.there in
       let is : first_place j ≡ b.current = cc in
       let r =
-      b.goes [] (subst (λ z. IsBest j ps 0 z []) is (best_first j ps fs f.at f.traced f.all f.walked.apart (all_found j j.limit ps f.at f.walked f.all))) in
+      b.goes [] (subst (λ z. IsBestPath j ps 0 z []) is
+      (best_first j ps fs f.at f.traced f.all f.walked.distinct (all_found j j.limit ps f.at f.walked f.all))) in
       record { last = r.last; before = r.before; is = d ∙ ap reverse (b.is ∙ r.is); best = r.best }
 
   -- where the place at an index was found from
@@ -70,8 +71,8 @@ module _ (j : Job) (ls : List Seen) (fs : List ℕ) (f : HasFound j ls fs) where
 -- ---- the index of a place
 
 -- what the comparison of two places computes
-abbrev pub are_same : Place → Place → Bool
-are_same p q = eqb p.address q.address && (sameb the_type p.entered q.entered && beq p.after_transfer q.after_transfer)
+abbrev pub is_same_place : Place → Place → Bool
+is_same_place p q = eqb p.address q.address && (sameb the_type p.entered q.entered && beq p.after_transfer q.after_transfer)
 
 same_entry : (e : Entry) → sameb the_type e e ≡ true
 same_entry e = search rules
@@ -79,9 +80,9 @@ same_entry e = search rules
 same_flag : (b : Bool) → beq b b ≡ true
 same_flag b = search rules
 
-pub same_place : (p q : Place) → p ≡ q → are_same p q ≡ true
+pub same_place : (p q : Place) → p ≡ q → is_same_place p q ≡ true
 same_place p q e =
-    subst (λ (z : Place). are_same p z ≡ true) e
+    subst (λ (z : Place). is_same_place p z ≡ true) e
     (and_from _ _ (eq-eqb p.address p.address refl) (and_from _ _ (same_entry p.entered) (same_flag p.after_transfer)))
 
 pub within_looks : (ls : List Seen) (p : Place) (k : ℕ) → slice_get (places_of_looks ls) k ≡ Some p → k < length ls

@@ -11,7 +11,7 @@ use Rattle.chan_walk.specs.Fault.{HasFault, IsClear}
 use Rattle.chan_walk.specs.Guarded.{IsArgumentByte, IsCcwByte}
 use Rattle.chan_walk.specs.Place.{data_at}
 use Rattle.chan_walk.specs.Reachable.{IsReachable}
-use Rattle.chan_walk.specs.Verdict.{AreClear, Changes, Offends, StoresOver}
+use Rattle.chan_walk.specs.Verdict.{AreClear, ChangesGuarded, Offends, StoresOver}
 use Rattle.chan_walk.proofs.Algorithms.Looking.{never_both}
 use Rattle.chan_walk.proofs.Theory.Faults.{fault_unique}
 use Rattle.chan_why.specs.Cause.{IsArgumentIn, IsCause, IsCcwIn}
@@ -22,15 +22,16 @@ offends_by_own j p r t reached f (inl g) = let same : ◌≡◌ {A = Option Reas
 offends_by_own j p r t reached f (inr h) = absurd (never_both j p r (h.0 p reached) f)
 
 -- and one without by a change
-pub offends_by_change : (j : Job) (p : Place) (t : Reason) → IsClear j p → Offends j p t → AreClear j × Changes j p t
+pub offends_by_change : (j : Job) (p : Place) (t : Reason) → IsClear j p → Offends j p t → AreClear j × ChangesGuarded j p t
 offends_by_change j p t clear (inl g) = absurd (never_both j p t clear g)
 offends_by_change j p t clear (inr h) = h
 
-pub changes_ccw : (j : Job) (p : Place) (t : Reason) → t ≡ ChangesCcw → Changes j p t → StoresOver j p (IsCcwByte j)
+pub changes_ccw : (j : Job) (p : Place) (t : Reason) → t ≡ ChangesCcw → ChangesGuarded j p t → StoresOver j p (IsCcwByte j)
 changes_ccw j p t e (inl h) = h.1
 changes_ccw j p t e (inr h) = let d : ◌≡◌ {A = Reason} ChangesCcw ChangesArgument = sym e ∙ h.0 in absurd (cc)
 
-pub changes_argument : (j : Job) (p : Place) (t : Reason) → (t ≡ ChangesCcw → ⊥) → Changes j p t → (t ≡ ChangesArgument) × StoresOver j p (IsArgumentByte j)
+pub changes_argument : (j : Job) (p : Place) (t : Reason) → (t ≡ ChangesCcw → ⊥) → ChangesGuarded j p t → (t ≡ ChangesArgument)
+    × StoresOver j p (IsArgumentByte j)
 changes_argument j p t n (inl h) = absurd (n h.0)
 changes_argument j p t n (inr h) = h
 

@@ -16,14 +16,14 @@ use Rattle.chan_walk.specs.declared.argument.GivenBytes.{GivenBytes}
 use Rattle.chan_walk.specs.Evidence.{IsArgumentAt}
 use Rattle.chan_why.specs.Cause.{IsArgumentIn, IsCause, IsCcwIn, IsSecondPath, IsTakenAt}
 use Rattle.chan_areas.specs.Merged.{IsLeastOf, IsLeastOrNone, IsByteIn}
-use Rattle.chan_walk.specs.declared.argument.Read.{Read}
-use Rattle.chan_walk.specs.declared.argument.Read.TheVariants as read
+use Rattle.chan_walk.specs.declared.argument.Operand.{Operand}
+use Rattle.chan_walk.specs.declared.argument.Operand.TheVariants as operand
 use Rattle.chan_walk.specs.Fault.{IsClear, begins_seek, begins_set_mask}
 use Rattle.chan_walk.specs.Guard.{GuardAreas, Guards, IsArgumentByteOf}
 use Rattle.chan_walk.specs.Guarded.{IsArgumentByte, IsCcwByte}
 use Rattle.chan_walk.specs.Job.{storage_of}
 use Rattle.chan_walk.specs.Look.{IsLook, Seen, places_of_looks}
-use Rattle.chan_walk.specs.Read.{IsRead, whole_of}
+use Rattle.chan_walk.specs.Operand.{IsOperand, whole_of}
 use Rattle.chan_walk.specs.Place.{ccw_of}
 use Rattle.chan_walk.specs.Walk.{HasFound}
 use Rattle.chan_why.specs.Path.{IsFirstWhere, IsPathAt}
@@ -102,19 +102,20 @@ sets_only : (p : Place) (c : Fields) → begins_set_mask p c ≡ true → begins
 sets_only p c h = search (rules, seek_or_mask, cases_Bool)
 
 -- what was read at a place that takes a byte is its argument, if it is a seek's
-argument_taken : (j : Job) (p : Place) (b : ℕ) (r : Read) → IsRead (storage_of j) p (ccw_of j p) r → IsArgumentByteOf j p b → IsArgumentAt j p (whole_of r)
-argument_taken j p b read.Nothing h (inl k) = h.0
-argument_taken j p b read.Nothing h (inr m) = h.0
-argument_taken j p b (read.Short g) h (inl k) = absurd (h.1.0 k.1.chain k.1.is_chain)
-argument_taken j p b (read.Short g) h (inr m) = absurd (seek_or_mask p (ccw_of j p) h.0 m.1.sets)
-argument_taken j p b (read.Whole g) h k = (h.0, h.1)
-argument_taken j p b (read.Mask at x) h k = sets_only p (ccw_of j p) h.0
+argument_taken : (j : Job) (p : Place) (b : ℕ) (r : Operand) → IsOperand (storage_of j) p (ccw_of j p) r → IsArgumentByteOf j p b
+    → IsArgumentAt j p (whole_of r)
+argument_taken j p b operand.Nothing h (inl k) = h.0
+argument_taken j p b operand.Nothing h (inr m) = h.0
+argument_taken j p b (operand.Short g) h (inl k) = absurd (h.1.0 k.1.chain k.1.is_chain)
+argument_taken j p b (operand.Short g) h (inr m) = absurd (seek_or_mask p (ccw_of j p) h.0 m.1.sets)
+argument_taken j p b (operand.Whole g) h k = (h.0, h.1)
+argument_taken j p b (operand.Mask at x) h k = sets_only p (ccw_of j p) h.0
 
 pub taken_whole : (j : Job) (l : Seen) → IsLook j l → (b : ℕ) (o : Option GivenBytes)
-    → o ≡ whole_of l.read → IsArgumentByteOf j l.place b → IsArgumentAt j l.place o
+    → o ≡ whole_of l.operand → IsArgumentByteOf j l.place b → IsArgumentAt j l.place o
 taken_whole j l look b o e takes =
     let c = ccw_seen j l look (clear_stands j l.place (takes_clear j l.place b takes)) in
-    subst (IsArgumentAt j l.place) (sym e) (argument_taken j l.place b l.read (look.read (takes_clear j l.place b takes) (ccw_of j l.place) c) takes)
+    subst (IsArgumentAt j l.place) (sym e) (argument_taken j l.place b l.operand (look.operand (takes_clear j l.place b takes) (ccw_of j l.place) c) takes)
 
 -- the guarded bytes of arguments are those in the guard's areas
 module _ (j : Job) (areas : List Area) (g : (b : ℕ) → (lies_in areas b ≡ true) ↔ IsArgumentByte j b) (r : Area) where

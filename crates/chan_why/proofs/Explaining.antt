@@ -1,7 +1,7 @@
 -- The path to a place that offends by the verdict's reason.
 use Rattle.std.proofs.Common.{◌≡◌, ℕ, zero, suc, ◌<◌, List, [], ◌∷◌, ◌++◌, take, length, get_or}
 use Rattle.std.proofs.Common.{reverse, slice_get, Option, Some, None, IsSome, true, false, refl}
-use Rattle.std.proofs.Common.{sym, ap, ◌∙◌, subst, inl, arith}
+use Rattle.std.proofs.Common.{sym, ◌∙◌, subst, inl, arith}
 use Rattle.std.specs.List.{AllZip}
 use Rattle.chan_walk.specs.declared.evidence.Evidence.{Evidence}
 use Rattle.chan_walk.specs.declared.job.Job.{Job}
@@ -9,8 +9,8 @@ use Rattle.chan_walk.specs.declared.offence.Offence.{Offence}
 use Rattle.chan_walk.specs.declared.place.Place.{Place}
 use Rattle.chan_walk.specs.Alarm.{EachPathShows, IsProper}
 use Rattle.chan_walk.specs.Argument.{Has}
-use Rattle.chan_why.specs.Witness.{IsCaseOf, IsCauseOf, IsEvidenceOf, IsLike, IsPathOf, IsStoredBefore}
-use Rattle.chan_why.specs.Witness.{IsStoredOver, IsWitness, OffendsAt}
+use Rattle.chan_why.specs.Witness.{IsCaseOf, IsCauseOf, IsEvidenceOf, HasLikeOffence, IsPathOf}
+use Rattle.chan_why.specs.Witness.{IsStoredBefore, IsStoredOver, IsWitness, OffendsAt}
 use Rattle.chan_walk.specs.declared.reason.Reason.{Reason}
 use Rattle.chan_walk.specs.declared.verdict.Verdict.TheVariants.{No}
 use Rattle.chan_walk.specs.Reason.{is_no_command}
@@ -34,24 +34,25 @@ module _ (j : Job) (ls : List Seen) (fs : List ℕ) (f : HasFound j ls fs) (os :
   ps = places_of_looks ls
 
   -- a reachable place offends as the offence does exactly where it is like it
-  like : (p : Place) → IsReachable j p → OffendsAt j o.place.address o.reason p → IsLike os o p
+  like : (p : Place) → IsReachable j p → OffendsAt j o.place.address o.reason p → HasLikeOffence os o p
   like p r off = (off.0, are.each (offence p o.reason) (r, off.1))
 
-  offends : (p : Place) → IsLike os o p → OffendsAt j o.place.address o.reason p
+  offends : (p : Place) → HasLikeOffence os o p → OffendsAt j o.place.address o.reason p
   offends p h = (h.0, (are.only (offence p o.reason) h.1).1)
 
-  first_offending : (i : ℕ) → IsFirstWhere (IsLike os o) ps (Some i) → IsFirstWhere (OffendsAt j o.place.address o.reason) ps (Some i)
+  first_offending : (i : ℕ) → IsFirstWhere (HasLikeOffence os o) ps (Some i) → IsFirstWhere (OffendsAt j o.place.address o.reason) ps (Some i)
   first_offending i h = ((h.0.0, h.0.1, offends h.0.0 h.0.2), λ k p l e off. h.1 k p l e (like p (f.walked.only p (has_at ps k p e)) off))
 
-  pub path_found : (i : ℕ) (path : List Place) → IsPathAt j ps i path → IsFirstWhere (IsLike os o) ps (Some i) → IsPathOf j (No o.place.address o.reason) path
+  pub path_found : (i : ℕ) (path : List Place) → IsPathAt j ps i path → IsFirstWhere (HasLikeOffence os o) ps (Some i)
+      → IsPathOf j (No o.place.address o.reason) path
   path_found i path a h = path_where j ls fs f (OffendsAt j o.place.address o.reason) i path (first_offending i h) a
 
   -- the offence's own place is like it
-  pub some_found : (at : Option ℕ) → IsFirstWhere (IsLike os o) ps at → IsSome at
-  some_found None n = absurd (reached_at j ls fs f (IsLike os o) n o.place (are.only o listed).0 (refl, listed))
+  pub some_found : (at : Option ℕ) → IsFirstWhere (HasLikeOffence os o) ps at → IsSome at
+  some_found None n = absurd (reached_at j ls fs f (HasLikeOffence os o) n o.place (are.only o listed).0 (refl, listed))
   some_found (Some i) n = refl
 
-  pub offending_found : (i : ℕ) (p : Place) → slice_get ps i ≡ Some p → IsFirstWhere (IsLike os o) ps (Some i) → Offending j (offence p o.reason)
+  pub offending_found : (i : ℕ) (p : Place) → slice_get ps i ≡ Some p → IsFirstWhere (HasLikeOffence os o) ps (Some i) → Offending j (offence p o.reason)
   offending_found i p e h =
       let same : ◌≡◌ {A = Option Place} (Some h.0.0) (Some p) = sym h.0.1 ∙ e in
       let is : h.0.0 ≡ p = cc in
@@ -65,16 +66,16 @@ module _ (j : Job) (ls : List Seen) (fs : List ℕ) (f : HasFound j ls fs) (os :
       (a.last, a.before, a.is, subst (λ (q : Place). IsEvidence j (offence q o.reason) e) is v)
 
   pub cause_found : (i : ℕ) (p : Place) (e : Evidence) → slice_get ps i ≡ Some p
-      → IsFirstWhere (IsLike os o) ps (Some i) → IsEvidence j (offence p o.reason) e → IsCauseOf j o e
+      → IsFirstWhere (HasLikeOffence os o) ps (Some i) → IsEvidence j (offence p o.reason) e → IsCauseOf j o e
   cause_found i p e here h v =
       let b = best_where j ls fs f (OffendsAt j o.place.address o.reason) i p (first_offending i h) here in
       (reverse (p ∷ b.0), record { last = p; before = b.0; is = refl; path = b.1 }, (p, b.0, refl, v))
 
 -- the place of this index is the first that is like an offence of the survey
 module _ (j : Job) (s : Surveyed) (is : IsSurvey j s) (o : Offence) (listed : Has s.offences o) (at : ℕ)
-    (first : IsFirstWhere (IsLike s.offences o) (places_of_looks s.looks) (Some at)) (l : Seen) (seen : l ≡ get_or s.looks at l) where
+    (first : IsFirstWhere (HasLikeOffence s.offences o) (places_of_looks s.looks) (Some at)) (l : Seen) (seen : l ≡ get_or s.looks at l) where
   within : at < length s.looks
-  within = first_within (IsLike s.offences o) s.looks at first
+  within = first_within (HasLikeOffence s.offences o) s.looks at first
 
   here : slice_get (places_of_looks s.looks) at ≡ Some l.place
   here = place_at s.looks at l within seen
@@ -110,10 +111,6 @@ stored_told j a r path by shown s told other = ((λ e. subst (IsStoredBefore j (
 pub first_listed : (os : List Offence) (o : Offence) → Some o ≡ slice_get os 0 → Has os o
 first_listed [] o e = absurd (cc)
 first_listed (t ∷ os) o e = let is : t ≡ o = cc in inl is
-
-pub verdict_first : (os : List Offence) (o : Offence) → Some o ≡ slice_get os 0 → No o.place.address o.reason ≡ first_verdict os
-verdict_first [] o e = absurd (cc)
-verdict_first (t ∷ os) o e = let is : o ≡ t = cc in ap (λ (z : Offence). No z.place.address z.reason) is
 
 -- a run over the path shows the reason
 pub witness : (j : Job) (os : List Offence) (path : List Place) → IsProper j

@@ -8,7 +8,7 @@ use Rattle.chan_walk.specs.declared.place.Place.{Place}
 use Rattle.chan_walk.specs.Look.{Seen, places_of_looks}
 use Rattle.chan_why.specs.Path.{ArePathWhere, IsPathWhere, IsFirstWhere, IsPathAt}
 use Rattle.chan_walk.specs.Reachable.{IsReachable}
-use Rattle.chan_walk.specs.Walk.{HasFound, IsBest}
+use Rattle.chan_walk.specs.Walk.{HasFound, IsBestPath}
 use Rattle.chan_walk.proofs.Algorithms.Looking.{number_of_places, place_at}
 use Rattle.chan_walk.proofs.Algorithms.Tracing.{best_first, best_next}
 use Rattle.chan_walk.proofs.Algorithms.Walking.{all_found}
@@ -40,18 +40,19 @@ module _ (j : Job) (ls : List Seen) (fs : List ℕ) (f : HasFound j ls fs) where
       n at.0 p at.2 holds
 
   -- each place found has a path that is the best
-  best_at : (n k : ℕ) (p : Place) → k < n → slice_get ps k ≡ Some p → (before : List Place) × IsBest j ps k p before
+  best_at : (n k : ℕ) (p : Place) → k < n → slice_get ps k ≡ Some p → (before : List Place) × IsBestPath j ps k p before
   best_at zero k p h e = absurd (omega arith)
   best_at (suc n) zero p h e = search (rules, best_first, all_found)
   best_at (suc n) (suc k) p h e =
       let r = f.traced.from (suc k) (omega arith) (slice_get_within ps (suc k) p e) in
       let b = best_at n (slice_index fs (suc k)) r.parent (omega (arith, r.earlier)) r.there in (
         r.parent ∷ b.0,
-        best_next j ps fs f.at f.traced f.all f.walked.apart (all_found j j.limit ps f.at f.walked f.all) (suc k) p r.parent b.0 (omega arith) e b.1,
+        best_next j ps fs f.at f.traced f.all f.walked.distinct (all_found j j.limit ps f.at f.walked f.all) (suc k) p r.parent b.0 (omega arith) e b.1,
       )
 
   -- the best path to the first place for which P holds is the path to such a place
-  where_first : (P : Place → Type 0) (i : ℕ) (p : Place) (before : List Place) → IsFirstWhere P ps (Some i) → IsBest j ps i p before → IsPathWhere j P p before
+  where_first : (P : Place → Type 0) (i : ℕ) (p : Place) (before : List Place) → IsFirstWhere P ps (Some i) → IsBestPath j ps i p before
+      → IsPathWhere j P p before
   where_first P i p before h b =
       let same : ◌≡◌ {A = Option Place} (Some p) (Some h.0.0) = sym b.here ∙ h.0.1 in
       let is : h.0.0 ≡ p = cc in

@@ -1,7 +1,7 @@
 -- Where a program ends by itself and where it may hang, over its runs.
-use Rattle.std.proofs.Common.{◌≡◌, ℕ, ◌+◌, ◌<◌, Bool, true, false, if◌then◌else◌, List}
-use Rattle.std.proofs.Common.{[], ◌∷◌, ◌++◌, length, reverse, Option, Some, None, is_none, refl, sym}
-use Rattle.std.proofs.Common.{ap, ◌∙◌, subst, ◌⊎◌, inl, inr, arith, rules}
+use Rattle.std.proofs.Common.{◌≡◌, ℕ, ◌+◌, ◌<◌, Bool, true, false, if◌then◌else◌, List, [], ◌∷◌}
+use Rattle.std.proofs.Common.{◌++◌, length, reverse, Option, Some, None, is_none, refl, sym, ap}
+use Rattle.std.proofs.Common.{◌∙◌, subst, ◌⊎◌, inl, inr, arith, rules, ◌↔◌}
 use Rattle.std.proofs.lemmas.Bool.{both_ways}
 use Rattle.std.proofs.lemmas.List.{append_assoc, reverse-append}
 use Rattle.ccw_core.specs.Ccw.{Fields, ccw, chains_command, chains_data, is_transfer}
@@ -14,7 +14,7 @@ use Rattle.chan_walk.specs.declared.place.Place.{Place}
 use Rattle.chan_walk.specs.declared.verdict.Verdict.TheVariants.{Yes}
 use Rattle.chan_walk.specs.Alarm.{AreBytes}
 use Rattle.chan_walk.specs.Argument.{HasArgument}
-use Rattle.chan_walk.specs.Check.{check, check_of}
+use Rattle.chan_walk.specs.ProgramCheck.{program_check, program_check_of}
 use Rattle.chan_walk.specs.Fault.{begins_seek, is_known, kind_of, IsClear}
 use Rattle.chan_walk.specs.Job.{storage_of}
 use Rattle.chan_walk.specs.Machine as machine
@@ -23,23 +23,21 @@ use Rattle.chan_walk.specs.Machine.{StepFrom, under_way}
 use Rattle.chan_walk.specs.OpenJob.{AreOfOneProgram}
 use Rattle.chan_walk.specs.Place.{ccw_of, is_fresh, straight_to, transferred_to}
 use Rattle.chan_walk.specs.Reachable.{IsPath, IsReachable}
-use Rattle.chan_walk.specs.Runs.{Moment, Steps}
+use Rattle.chan_walk.specs.Runs.{Moment, Steps, IsSameIn}
 use Rattle.chan_walk.specs.Successor.{Successor, chained, next_of, skip_of}
 use Rattle.chan_walk.specs.Verdict.{IsVerdict}
 use Rattle.chan_why.specs.Hang.{CannotEndAt, EndsAfter, EndsTheProgram, HangLasts, SomeRunEnds}
 use Rattle.chan_why.specs.Hang.{HangGoesOn, HangsAlike, HangStays, StepsOn, StepsOnUnlessItEnds}
 use Rattle.ccw_core.specs.Held.{bytes_held}
-use Rattle.chan_walk.specs.Counted.{IsCounted, with_storage}
-use Rattle.chan_walk.specs.Runs.{IsSameIn}
-use Rattle.chan_walk.proofs.Algorithms.Counted.{carries_at}
-use Rattle.chan_walk.proofs.Machine.Again.{counted_is_guarded}
+use Rattle.chan_walk.specs.VerdictBytes.{IsVerdictByte, with_storage}
+use Rattle.chan_walk.proofs.Algorithms.VerdictBytes.{carries_at}
+use Rattle.chan_walk.proofs.Machine.Again.{verdict_byte_is_guarded}
 use Rattle.chan_walk.proofs.Theory.Transport.{CarriesOver, same_reached}
-use Rattle.std.proofs.Common.{◌↔◌}
 use Rattle.chan_walk.proofs.Machine.Gathering.{advance, begin}
 use Rattle.chan_walk.proofs.Machine.Invariant.{Invariant, Same, Under}
 use Rattle.chan_walk.proofs.Machine.Paths.{Taking, each_path_is_run, few_at}
-use Rattle.chan_walk.proofs.Machine.Quiet.{IsFew, Known, Left, bytes_at, carry_out, full_count, kind_at}
-use Rattle.chan_walk.proofs.Machine.Quiet.{length-with_taken, seek_at}
+use Rattle.chan_walk.proofs.Machine.Quiet.{IsFew, Known, Left, bytes_at, carry_out, full_count}
+use Rattle.chan_walk.proofs.Machine.Quiet.{kind_at, length-with_taken, seek_at}
 use Rattle.chan_walk.proofs.Machine.Waiting.{WaitsSpared}
 use Rattle.chan_walk.proofs.Machine.Yes.{all_kept, each_ok, fresh_out}
 use Rattle.chan_walk.proofs.Theory.Granting.{same_under_yes, turned}
@@ -111,7 +109,7 @@ record Onward (s : List ℕ) (y f : ℕ) (p : Place) (g : Gathered) : Type 0 whe
 
 -- j is a job over the storage of a moment, with the mask in force there
 module _ (j : Job) (y : ℕ) (p : Place) (g : Gathered) (bytes : AreBytes (storage_of j))
-    (e : check (storage_of j) p ≡ None) (few : IsFew (under_way p (ccw_of j p) g)) where
+    (e : program_check (storage_of j) p ≡ None) (few : IsFew (under_way p (ccw_of j p) g)) where
   onward : {to : Place} {h : Gathered} → Known j p → is_transfer (ccw_of j p) ≡ false
       → Continues p (ccw_of j p) (kind_at j p) (bytes_at j p) (seek_at j y p g few).after [] (At to h) → Onward (storage_of j) y j.mask p g
   onward {to = to} {h = h} known t goes =
@@ -217,10 +215,10 @@ module _ (j : Job) (v : IsVerdict j Yes) (p : Place) (reached : IsReachable j p)
       same : ccw_of j p ≡ ccw_of there p
       same = sym (ccw_kept m.storage i.same)
 
-      checked : check m.storage p ≡ None
+      checked : program_check m.storage p ≡ None
       checked =
-          ap (λ n. check_of n p (ccw m.storage p.address)) i.same_length
-          ∙ ap (check_of (length (storage_of j)) p) (ccw_kept m.storage i.same) ∙ clear_check j p clear
+          ap (λ n. program_check_of n p (ccw m.storage p.address)) i.same_length
+          ∙ ap (program_check_of (length (storage_of j)) p) (ccw_kept m.storage i.same) ∙ clear_check j p clear
 
       q : (q : Place) × Successor j p q
       q = on_or_end n _ _ refl refl
@@ -331,8 +329,8 @@ hang_stays j t v same p = (
     there : Job
     there = with_storage j t
 
-    counted : IsSameIn (IsCounted j) (storage_of j) (bytes_held t)
-    counted = record { same_length = same.same_length; same = λ b c. same.same b (counted_is_guarded j v b c) }
+    counted : IsSameIn (IsVerdictByte j) (storage_of j) (bytes_held t)
+    counted = record { same_length = same.same_length; same = λ b c. same.same b (verdict_byte_is_guarded j v b c) }
 
     reached : (q : Place) → IsReachable j q ↔ IsReachable there q
     reached q = same_reached j there refl (carries_at j t counted) q

@@ -6,7 +6,7 @@ use Rattle.ckd_core.specs.declared.command.Kind.TheVariants.{Idle}
 use Rattle.ckd_core.specs.Command.{Entry as Command, table, lookup}
 use Rattle.chan_walk.specs.Fault.{kind_of_command}
 use Rattle.chan_why.specs.Notes.{is_idle, moves_nothing}
-use Rattle.chan_walk.proofs.Theory.Commands.{Passes, found_passes, found_code}
+use Rattle.chan_walk.proofs.Theory.Commands.{PassesTest, found_passes, found_code}
 
 abbrev idle_are_no_transfers : Command → Bool
 idle_are_no_transfers e = not (moves_nothing e.kind) || not (e.code % 16 == 8)
@@ -15,7 +15,7 @@ idle_apart : list_all idle_are_no_transfers table ≡ true
 unfolding table
 idle_apart = refl
 
-idle_at : (code : ℕ) (o : Option Command) → Passes idle_are_no_transfers o → Passes (λ e. e.code == code) o
+idle_at : (code : ℕ) (o : Option Command) → PassesTest idle_are_no_transfers o → PassesTest (λ e. e.code == code) o
     → is_idle o ≡ true → (kind_of_command o ≡ Idle) × ((code % 16 == 8) ≡ false)
 idle_at code o h same k = search rules
 

@@ -16,7 +16,7 @@ use Rattle.chan_why.specs.Finder.{TakesSoFar, kind_number}
 use Rattle.chan_walk.specs.Look.{AreLooks, Seen, places_of_looks, argument_seen}
 use Rattle.chan_walk.specs.declared.job.Job.{Job}
 use Rattle.chan_walk.specs.declared.reason.Reason.{Reason}
-use Rattle.chan_why.specs.Witness.{IsLike}
+use Rattle.chan_why.specs.Witness.{HasLikeOffence}
 use Rattle.chan_walk.specs.Guard.{IsArgumentByteOf}
 use Rattle.chan_walk.specs.Reason.{number_of}
 use Rattle.chan_why.specs.Path.{IsFirstWhere}
@@ -175,7 +175,7 @@ some_place ls p None none h =
     absurd (none k.0 (omega (arith, k.1, number_of_places ls), (l.0, l.1, ap place_number (sym l.2))))
 some_place ls p (Some b) is h = refl
 
-module _ (ls : List Seen) (apart : AreDistinct (places_of_looks ls)) (os : List Offence) (i : ℕ) (o d : Offence)
+module _ (ls : List Seen) (distinct : AreDistinct (places_of_looks ls)) (os : List Offence) (i : ℕ) (o d : Offence)
     (h : i < length os) (is : o ≡ get_or os i d) (at : ℕ) (found : IsLeastOf (IsAtPlace ls (length ls) (place_number o.place)) at) where
   there : slice_get os i ≡ Some o
   there = slice_get-get_or os i d h ∙ ap Some (sym is)
@@ -211,7 +211,7 @@ module _ (ls : List Seen) (apart : AreDistinct (places_of_looks ls)) (os : List 
               let place : g.look.place ≡ seen.place = g.place ∙ ap (λ (t : Offence). t.place) same ∙ sym seen_at in
               inr (
                 g.kind ∙ ap kind_number same ∙ sym e,
-                same_index (places_of_looks ls) seen.place a at apart (place_there ls a g.look g.seen ∙ ap Some place) (place_there ls at seen found.0.1.1),
+                same_index (places_of_looks ls) seen.place a at distinct (place_there ls a g.look g.seen ∙ ap Some place) (place_there ls at seen found.0.1.1),
               )
 
       from : IsOfKind ls os i k a ⊎ ((k ≡ n) × (a ≡ at)) → IsOfKind ls os (i + 1) k a
@@ -269,12 +269,12 @@ same_kind o t e = search rules
 
 -- what the index has of an address and a reason is the first place that so offends
 pub like_found : (ls : List Seen) (os : List Offence) (o : Offence) (m : BTreeMap ℕ ℕ) (at : Option ℕ)
-    → IsIndex (IsOfKind ls os (length os)) m → at ≡ tree.get nat_cmp m (kind_number o) → IsFirstWhere (IsLike os o) (places_of_looks ls) at
+    → IsIndex (IsOfKind ls os (length os)) m → at ≡ tree.get nat_cmp m (kind_number o) → IsFirstWhere (HasLikeOffence os o) (places_of_looks ls) at
 like_found ls os o m at index is =
-    first_where (IsLike os o) (places_of_looks ls) (IsOfKind ls os (length os) (kind_number o)) to back at
+    first_where (HasLikeOffence os o) (places_of_looks ls) (IsOfKind ls os (length os) (kind_number o)) to back at
     (subst (IsLeastOrNone (IsOfKind ls os (length os) (kind_number o))) (sym is) (index (kind_number o)))
   where
-    to : (k : ℕ) (p : Place) → slice_get (places_of_looks ls) k ≡ Some p → IsLike os o p → IsOfKind ls os (length os) (kind_number o) k
+    to : (k : ℕ) (p : Place) → slice_get (places_of_looks ls) k ≡ Some p → HasLikeOffence os o p → IsOfKind ls os (length os) (kind_number o) k
     to k p e h =
         let l = look_there ls k p e in
         let x = at_has os (offence p o.reason) h.1 in
@@ -289,7 +289,7 @@ like_found ls os o m at index is =
           place = l.2;
         }
 
-    back : (k : ℕ) → IsOfKind ls os (length os) (kind_number o) k → (p : Place) × (slice_get (places_of_looks ls) k ≡ Some p) × IsLike os o p
+    back : (k : ℕ) → IsOfKind ls os (length os) (kind_number o) k → (p : Place) × (slice_get (places_of_looks ls) k ≡ Some p) × HasLikeOffence os o p
     back k g =
         let same = same_kind o g.offence g.kind in
         let is : g.offence ≡ offence g.look.place o.reason = cong g.offence g.look.place o.reason (sym g.place) (sym same.1) in (

@@ -26,7 +26,7 @@ use Rattle.chan_why.specs.Notes.{AddsAddress, AreAddressesOf, AreUnused, IsMachi
 use Rattle.chan_why.specs.Notes.{HasNoSuccessor, IsSeenWith, HasUsedByte, NothingFollows}
 use Rattle.chan_why.specs.Notes.{ends_there, has_byte_of, is_idle, moves_nothing}
 use Rattle.chan_why.specs.Notes.{has_machine_byte, meets_any}
-use Rattle.chan_walk.specs.Moved.{Passes}
+use Rattle.chan_walk.specs.Moved.{PassesTest}
 use Rattle.chan_walk.specs.Place.{is_fresh, ccw_of}
 use Rattle.chan_walk.specs.Successor.{next_of}
 use Rattle.chan_areas.specs.Merged.{Meets}
@@ -101,7 +101,7 @@ unused_same P Q areas unused f u = record {
 
 -- a is the address of p, whose CCW passes the test
 abbrev pub HasAddress : (Place → Fields → Bool) → Job → Place → ℕ → Type 0
-HasAddress test j p a = Passes test j p × (p.address ≡ a)
+HasAddress test j p a = PassesTest test j p × (p.address ≡ a)
 
 -- the list has exactly these addresses of the places
 abbrev pub HoldAddresses : (ℕ → Type 0) → (Place → ℕ → Type 0) → List Place → Type 0

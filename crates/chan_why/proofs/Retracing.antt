@@ -1,14 +1,12 @@
 -- A program is retraced, from the places that end it back to those before them.
-use Rattle.std.proofs.Common.{◌≡◌, ℕ, zero, suc, ◌+◌, ◌-◌, ◌<◌, ◌≤◌, Bool, true, false, not, cond, List, []}
-use Rattle.std.proofs.Common.{◌∷◌, ◌++◌, length, get_or, set, take, Option, Some, None, refl, sym}
-use Rattle.std.proofs.Common.{ap, ◌∙◌, subst, ◌⊎◌, inl, inr, ◌↔◌, arith, rules}
+use Rattle.std.proofs.Common.{◌≡◌, ℕ, zero, suc, ◌+◌, ◌-◌, ◌<◌, ◌≤◌, Bool, true, false, not, cond}
+use Rattle.std.proofs.Common.{List, [], ◌∷◌, ◌++◌, length, get_or, set, take, Option, Some, None}
+use Rattle.std.proofs.Common.{refl, sym, ap, ◌∙◌, subst, ◌⊎◌, inl, inr, ◌↔◌, arith, rules}
 use Rattle.std.specs.List.{count_by, slice_get}
-use Rattle.std.specs.Prelude.{replicate}
 use Rattle.std.proofs.lemmas.Bool.{both_ways, cases_eq, cases_lt, false_from_ne_true}
-use Rattle.std.proofs.lemmas.List.{append-nil, append_assoc, get_or-replicate, get_or-set_other}
-use Rattle.std.proofs.lemmas.List.{get_or-set_same, get_or_append_left, get_or_past, length-append}
-use Rattle.std.proofs.lemmas.List.{length-replicate, length-set, length-take, take-append-le, take_at}
-use Rattle.std.proofs.lemmas.List.Folds.{sum_by-replicate}
+use Rattle.std.proofs.lemmas.List.{append-nil, append_assoc, get_or-set_other, get_or-set_same}
+use Rattle.std.proofs.lemmas.List.{get_or_append_left, get_or_past, length-append, length-set}
+use Rattle.std.proofs.lemmas.List.{length-take, take-append-le, take_at}
 use Rattle.std.proofs.lemmas.List.Sums.{sum_by-set}
 use Rattle.std.proofs.lemmas.Option.{get_or_from_slice_get, slice_get_within}
 use Rattle.chan_walk.specs.declared.job.Job.{Job}
@@ -22,10 +20,10 @@ use Rattle.chan_walk.specs.Fault.{IsClear}
 use Rattle.chan_walk.specs.Look.{AreLooks, Seen, places_of_looks}
 use Rattle.chan_walk.specs.Places.{AreReached, place_number}
 use Rattle.chan_walk.specs.Walk.{Follows, IsAmong}
-use Rattle.chan_why.specs.Hang.{AddsPredecessor, ArePredecessors, AreRows, CanEnd, ComesAfter}
-use Rattle.chan_why.specs.Hang.{ComesBefore, EndsAfter, EndsAt, EndsTheProgram, FindsMore, HasBefore}
-use Rattle.chan_why.specs.Hang.{IsEarlier, IsFirstPlace, IsLeft, MarksFound, MayHang, end_after}
-use Rattle.chan_why.specs.Hang.{one_after, row_of}
+use Rattle.chan_why.specs.Hang.{AddsPredecessor, ArePredecessors, AreBuckets, CanEnd, ComesAfter}
+use Rattle.chan_why.specs.Hang.{ComesBefore, EndsAfter, BucketEndsAt, EndsTheProgram, FindsMore}
+use Rattle.chan_why.specs.Hang.{HasBefore, IsEarlier, IsFirstPlace, IsLeftUnmarked, MarksFound}
+use Rattle.chan_why.specs.Hang.{MayHang, end_after, one_after, bucket_of}
 use Rattle.chan_walk.proofs.Algorithms.Looking.{clear_shows_none, number_of_places, own_clear}
 use Rattle.chan_walk.proofs.Algorithms.Marks.{same_number}
 use Rattle.chan_walk.proofs.Algorithms.Walking.{follows_exactly}
@@ -67,34 +65,35 @@ taken_at [] (suc m) i l = refl
 taken_at (z ∷ xs) (suc m) zero l = refl
 taken_at (z ∷ xs) (suc m) (suc i) l = taken_at xs m i (omega arith)
 
--- ---- rows
+-- ---- buckets
 
-ends_other : (n r : ℕ) (ps : List Predecessor) (x : Predecessor) (m : ℕ) → (row_of n x.of ≡ r → ⊥) → EndsAt n r ps m → EndsAt n r (ps ++ x ∷ []) m
+ends_other : (n r : ℕ) (ps : List Predecessor) (x : Predecessor) (m : ℕ) → (bucket_of n x.of ≡ r → ⊥) → BucketEndsAt n r ps m
+    → BucketEndsAt n r (ps ++ x ∷ []) m
 ends_other n r ps x m d e = record {
   last = λ k is. let l = e.last k is in (l.0, front_at ps (x ∷ []) k l.0 l.1, l.2);
   none = λ i p le s. go i p le (pushed ps x p i s);
 }
   where
-    go : (i : ℕ) (p : Predecessor) → m ≤ i → (slice_get ps i ≡ Some p) ⊎ ((i ≡ length ps) × (x ≡ p)) → row_of n p.of ≡ r → ⊥
+    go : (i : ℕ) (p : Predecessor) → m ≤ i → (slice_get ps i ≡ Some p) ⊎ ((i ≡ length ps) × (x ≡ p)) → bucket_of n p.of ≡ r → ⊥
     go i p le (inl s) = e.none i p le s
-    go i p le (inr s) = λ h. d (ap (λ (z : Predecessor). row_of n z.of) s.1 ∙ h)
+    go i p le (inr s) = λ h. d (ap (λ (z : Predecessor). bucket_of n z.of) s.1 ∙ h)
 
-ends_here : (n : ℕ) (ps : List Predecessor) (x : Predecessor) → EndsAt n (row_of n x.of) (ps ++ x ∷ []) (length ps + 1)
+ends_here : (n : ℕ) (ps : List Predecessor) (x : Predecessor) → BucketEndsAt n (bucket_of n x.of) (ps ++ x ∷ []) (length ps + 1)
 ends_here n ps x = record {
   last = λ k is. let e : length ps ≡ k = omega (arith, is) in (x, subst (λ z. slice_get (ps ++ x ∷ []) z ≡ Some x) e (last_at ps x), refl);
   none = λ i p le s. go i p le (pushed ps x p i s);
 }
   where
-    go : (i : ℕ) (p : Predecessor) → length ps + 1 ≤ i → (slice_get ps i ≡ Some p) ⊎ ((i ≡ length ps) × (x ≡ p)) → row_of n p.of ≡ row_of n x.of → ⊥
+    go : (i : ℕ) (p : Predecessor) → length ps + 1 ≤ i → (slice_get ps i ≡ Some p) ⊎ ((i ≡ length ps) × (x ≡ p)) → bucket_of n p.of ≡ bucket_of n x.of → ⊥
     go i p le (inl s) h = absurd (omega (arith, le, slice_get_within ps i p s))
     go i p le (inr s) h = absurd (omega (arith, le, s.0))
 
--- one more in its row
-rows_more : (p q : Predecessors) (x : Predecessor) → AreRows p → q.list.items ≡ p.list.items ++ x ∷ []
-    → x.before ≡ get_or p.ends.items (row_of (length p.ends.items) x.of) 0
-    → q.ends.items ≡ set p.ends.items (row_of (length p.ends.items) x.of) (length p.list.items + 1)
-    → row_of (length p.ends.items) x.of < length p.ends.items → AreRows q
-rows_more p q x a list before ends low = record {
+-- one more in its bucket
+buckets_more : (p q : Predecessors) (x : Predecessor) → AreBuckets p → q.list.items ≡ p.list.items ++ x ∷ []
+    → x.before ≡ get_or p.ends.items (bucket_of (length p.ends.items) x.of) 0
+    → q.ends.items ≡ set p.ends.items (bucket_of (length p.ends.items) x.of) (length p.list.items + 1)
+    → bucket_of (length p.ends.items) x.of < length p.ends.items → AreBuckets q
+buckets_more p q x a list before ends low = record {
   some = omega (arith, a.some, len);
   ends = λ r l. rw (len, list, ends) (end r (omega (arith, l, len)) (cases_eq r at));
   before = λ i y s. rw (len, list) (old i y (pushed ps x y i (subst (λ z. slice_get z i ≡ Some y) list s)));
@@ -107,34 +106,33 @@ rows_more p q x a list before ends low = record {
     ps = p.list.items
 
     at : ℕ
-    at = row_of n x.of
+    at = bucket_of n x.of
 
     len : length q.ends.items ≡ length p.ends.items
     len = ap length ends ∙ length-set p.ends.items at (length ps + 1)
 
-    end : (r : ℕ) → r < n → (r ≡ at) ⊎ (r ≡ at → ⊥) → EndsAt n r (ps ++ x ∷ []) (get_or (set p.ends.items at (length ps + 1)) r 0)
+    end : (r : ℕ) → r < n → (r ≡ at) ⊎ (r ≡ at → ⊥) → BucketEndsAt n r (ps ++ x ∷ []) (get_or (set p.ends.items at (length ps + 1)) r 0)
     end r l (inl e) =
-        subst (λ z. EndsAt n z (ps ++ x ∷ []) (get_or (set p.ends.items at (length ps + 1)) z 0)) (sym e)
-        (subst (EndsAt n at (ps ++ x ∷ [])) (sym (get_or-set_same p.ends.items at (length ps + 1) 0 low)) (ends_here n ps x))
+        subst (λ z. BucketEndsAt n z (ps ++ x ∷ []) (get_or (set p.ends.items at (length ps + 1)) z 0)) (sym e)
+        (subst (BucketEndsAt n at (ps ++ x ∷ [])) (sym (get_or-set_same p.ends.items at (length ps + 1) 0 low)) (ends_here n ps x))
     end r l (inr d) =
-        subst (EndsAt n r (ps ++ x ∷ [])) (sym (get_or-set_other p.ends.items at r (length ps + 1) 0 d))
+        subst (BucketEndsAt n r (ps ++ x ∷ [])) (sym (get_or-set_other p.ends.items at r (length ps + 1) 0 d))
         (ends_other n r ps x (get_or p.ends.items r 0) (λ e. d (sym e)) (a.ends r l))
 
-    old : (i : ℕ) (y : Predecessor) → (slice_get ps i ≡ Some y) ⊎ ((i ≡ length ps) × (x ≡ y)) → EndsAt n (row_of n y.of) (take i (ps ++ x ∷ [])) y.before
+    old : (i : ℕ) (y : Predecessor) → (slice_get ps i ≡ Some y) ⊎ ((i ≡ length ps) × (x ≡ y))
+        → BucketEndsAt n (bucket_of n y.of) (take i (ps ++ x ∷ [])) y.before
     old i y (inl s) =
-        subst (λ z. EndsAt n (row_of n y.of) z y.before) (sym (take-append-le i ps (x ∷ []) (omega (arith, slice_get_within ps i y s)))) (a.before i y s)
+        subst (λ z. BucketEndsAt n (bucket_of n y.of) z y.before)
+        (sym (take-append-le i ps (x ∷ []) (omega (arith, slice_get_within ps i y s)))) (a.before i y s)
     old i y (inr s) =
-        subst (λ (y : Predecessor). EndsAt n (row_of n y.of) (take i (ps ++ x ∷ [])) y.before) s.1
-        (subst (λ z. EndsAt n at z x.before) (sym (take_at ps (x ∷ []) i (sym s.0))) (subst (EndsAt n at ps) (sym before) (a.ends at low)))
+        subst (λ (y : Predecessor). BucketEndsAt n (bucket_of n y.of) (take i (ps ++ x ∷ [])) y.before) s.1
+        (subst (λ z. BucketEndsAt n at z x.before) (sym (take_at ps (x ∷ []) i (sym s.0))) (subst (BucketEndsAt n at ps) (sym before) (a.ends at low)))
 
-pub nothing_added : (at : ℕ) (p : Predecessors) → AreRows p → AddsPredecessor at None p p
-nothing_added at p a = record { rows = a; has = λ of k. search rules }
-
-pub one_added : (at of : ℕ) (p q : Predecessors) (x : Predecessor) → x.of ≡ of → x.at ≡ at → AreRows p
-    → q.list.items ≡ p.list.items ++ x ∷ [] → x.before ≡ get_or p.ends.items (row_of (length p.ends.items) x.of) 0
-    → q.ends.items ≡ set p.ends.items (row_of (length p.ends.items) x.of) (length p.list.items + 1)
-    → row_of (length p.ends.items) x.of < length p.ends.items → AddsPredecessor at (Some of) p q
-one_added at of p q x e d a list before ends low = record { rows = rows_more p q x a list before ends low; has = λ o k. (to o k, from o k) }
+pub one_added : (at of : ℕ) (p q : Predecessors) (x : Predecessor) → x.of ≡ of → x.at ≡ at → AreBuckets p
+    → q.list.items ≡ p.list.items ++ x ∷ [] → x.before ≡ get_or p.ends.items (bucket_of (length p.ends.items) x.of) 0
+    → q.ends.items ≡ set p.ends.items (bucket_of (length p.ends.items) x.of) (length p.list.items + 1)
+    → bucket_of (length p.ends.items) x.of < length p.ends.items → AddsPredecessor at (Some of) p q
+one_added at of p q x e d a list before ends low = record { buckets = buckets_more p q x a list before ends low; has = λ o k. (to o k, from o k) }
   where
     to : (o k : ℕ) → HasBefore q.list.items o k → HasBefore p.list.items o k ⊎ ((Some of ≡ Some o) × (at ≡ k))
     to o k h = go ((has_push p.list.items x h.0).0 (subst (λ z. Has z h.0) list h.1))
@@ -148,23 +146,6 @@ one_added at of p q x e d a list before ends low = record { rows = rows_more p q
     from o k (inr h) =
         let same : of ≡ o = let s = h.0 in cc in
         (x, subst (λ z. Has z x) (sym list) ((has_push p.list.items x x).1 (inr refl)), e ∙ same, d ∙ h.1)
-
--- no predecessor yet, in n rows
-pub no_rows : (p : Predecessors) (n : ℕ) → 0 < n → p.list.items ≡ [] → p.ends.items ≡ replicate n 0 → AreRows p
-no_rows p n l list ends = record {
-  some = omega (arith, ap length ends, length-replicate {A = ℕ} n 0);
-  ends = end;
-  before = λ i x s. absurd (none i x (subst (λ z. slice_get z i ≡ Some x) list s));
-}
-  where
-    none : (i : ℕ) (x : Predecessor) → slice_get [] i ≡ Some x → ⊥
-    none i x s = absurd (cc)
-
-    end : (r : ℕ) → r < length p.ends.items → EndsAt (length p.ends.items) r p.list.items (get_or p.ends.items r 0)
-    end r m =
-        let zero_at : get_or p.ends.items r 0 ≡ 0 =
-        ap (λ z. get_or z r 0) ends ∙ get_or-replicate n r 0 0 (omega (arith, m, ap length ends, length-replicate {A = ℕ} n 0)) in
-        record { last = λ k is. absurd (omega (arith, is, zero_at)); none = λ i x le s. absurd (none i x (subst (λ z. slice_get z i ≡ Some x) list s)) }
 
 -- one look more
 pub before_more : (ls : List Seen) (i : ℕ) (l : Seen) (p q r t : Predecessors) → slice_get ls i ≡ Some l
@@ -187,17 +168,6 @@ before_more ls i l p q r t here are x y z = record {
     each at of w (inr k) m = let d : at ≡ i = omega arith in inr (subst (λ x. ComesAfter x of) (same_at ls at i w.0 l w.1 here d) w.2, sym d)
 
 -- ---- what is found
-
-pub none_marked : (n : ℕ) (f : Found) → f.marks.items ≡ replicate n false → f.order.items ≡ [] → MarksFound n f
-none_marked n f is none = record {
-  len = ap length is ∙ length-replicate n false;
-  agrees = λ k. ((λ h. absurd (off k (cases_lt k n) (subst (λ m. get_or m k false ≡ true) is h))), λ h. absurd (subst (λ z. Has z k) none h));
-  once = omega (arith, ap length none, ap (count_by not) is, sum_by-replicate (λ b. cond (not b) 1 0) n false);
-}
-  where
-    off : (k : ℕ) → (k < n) ⊎ (n ≤ k) → get_or (replicate n false) k false ≡ true → ⊥
-    off k (inl l) h = both_ways _ (get_or-replicate n k false false l) h
-    off k (inr l) h = both_ways _ (get_or_past (replicate n false) k false (omega (arith, l, length-replicate n false))) h
 
 -- the looks of P are found already
 pub finds_known : (n : ℕ) (P : ℕ → Type 0) (f : Found) → MarksFound n f → ((k : ℕ) → P k → Has f.order.items k) → FindsMore n P f f
@@ -272,40 +242,39 @@ found_within n f i m l = go (cases_lt (get_or f.order.items i 0) n)
 abbrev pub IsListed : List Predecessor → ℕ → ℕ → ℕ → Type 0
 IsListed ps of m k = (i : ℕ) × (p : Predecessor) × (m ≤ i) × (slice_get ps i ≡ Some p) × (p.of ≡ of) × (p.at ≡ k)
 
--- what is before m but not before the end of its row there is of no such row
-row_done : (n : ℕ) (ps : List Predecessor) (of m end k : ℕ) → EndsAt n (row_of n of) (take m ps) end → IsListed ps of end k → IsListed ps of m k
+-- what is before m but not before the end of its bucket there is of no such bucket
+row_done : (n : ℕ) (ps : List Predecessor) (of m end k : ℕ) → BucketEndsAt n (bucket_of n of) (take m ps) end → IsListed ps of end k → IsListed ps of m k
 row_done n ps of m end k e h = go (cases_lt h.0 m)
   where
     go : (h.0 < m) ⊎ (m ≤ h.0) → IsListed ps of m k
-    go (inl l) = absurd (e.none h.0 h.1 h.2 (taken_at ps m h.0 l ∙ h.3) (ap (row_of n) h.4))
+    go (inl l) = absurd (e.none h.0 h.1 h.2 (taken_at ps m h.0 l ∙ h.3) (ap (bucket_of n) h.4))
     go (inr l) = (h.0, h.1, l, h.3, h.4, h.5)
 
-pub none_listed : (n : ℕ) (ps : List Predecessor) (of end k : ℕ) → EndsAt n (row_of n of) ps end → IsListed ps of end k → ⊥
-none_listed n ps of end k e h = e.none h.0 h.1 h.2 h.3 (ap (row_of n) h.4)
-
-pub below_end : (n r m end : ℕ) (ps : List Predecessor) → EndsAt n r (take m ps) end → 0 < end → (end - 1 < m) × (end - 1 < length ps)
+pub below_end : (n r m end : ℕ) (ps : List Predecessor) → BucketEndsAt n r (take m ps) end → 0 < end → (end - 1 < m) × (end - 1 < length ps)
 below_end n r m end ps e l =
     let w = slice_get_within (take m ps) (end - 1) (e.last (end - 1) (omega arith)).0 (e.last (end - 1) (omega arith)).1 in
     (omega (arith, w, length-take m ps), omega (arith, w, length-take m ps))
 
-ends_within : (n r : ℕ) (ps : List Predecessor) (end : ℕ) → EndsAt n r ps end → end ≤ length ps
+ends_within : (n r : ℕ) (ps : List Predecessor) (end : ℕ) → BucketEndsAt n r ps end → end ≤ length ps
 ends_within n r ps zero e = omega arith
 ends_within n r ps (suc k) e = let l = e.last k (omega arith) in omega (arith, slice_get_within ps k l.0 l.1)
 
--- from the last one of a row to the one before it
-pub row_before : (p : Predecessors) (n of m end : ℕ) (x : Predecessor) → n ≡ length p.ends.items → AreRows p → EndsAt n (row_of n of) (take m p.list.items) end
-    → 0 < end → slice_get p.list.items (end - 1) ≡ Some x → EndsAt n (row_of n of) (take (end - 1) p.list.items) x.before × (x.before < end)
+-- from the last one of a bucket to the one before it
+pub row_before : (p : Predecessors) (n of m end : ℕ) (x : Predecessor) → n ≡ length p.ends.items → AreBuckets p
+    → BucketEndsAt n (bucket_of n of) (take m p.list.items) end
+    → 0 < end → slice_get p.list.items (end - 1) ≡ Some x → BucketEndsAt n (bucket_of n of) (take (end - 1) p.list.items) x.before × (x.before < end)
 row_before p n of m end x is a e l here =
     let last = e.last (end - 1) (omega arith) in
     let same = same_at p.list.items (end - 1) (end - 1) last.0 x
-    (sym (taken_at p.list.items m (end - 1) (below_end n (row_of n of) m end p.list.items e l).0) ∙ last.1) here refl in
-    let b = subst (λ n. EndsAt n (row_of n x.of) (take (end - 1) p.list.items) x.before) (sym is) (a.before (end - 1) x here) in (
-      subst (λ r. EndsAt n r (take (end - 1) p.list.items) x.before) (sym (ap (λ (z : Predecessor). row_of n z.of) same) ∙ last.2) b,
-      omega (arith, l, ends_within n (row_of n x.of) (take (end - 1) p.list.items) x.before b, length-take (end - 1) p.list.items),
+    (sym (taken_at p.list.items m (end - 1) (below_end n (bucket_of n of) m end p.list.items e l).0) ∙ last.1) here refl in
+    let b = subst (λ n. BucketEndsAt n (bucket_of n x.of) (take (end - 1) p.list.items) x.before) (sym is) (a.before (end - 1) x here) in (
+      subst (λ r. BucketEndsAt n r (take (end - 1) p.list.items) x.before) (sym (ap (λ (z : Predecessor). bucket_of n z.of) same) ∙ last.2) b,
+      omega (arith, l, ends_within n (bucket_of n x.of) (take (end - 1) p.list.items) x.before b, length-take (end - 1) p.list.items),
     )
 
 pub listed_more : (n : ℕ) (ps : List Predecessor) (of end k : ℕ) (x : Predecessor) → 0 < end → slice_get ps (end - 1) ≡ Some x
-    → EndsAt n (row_of n of) (take (end - 1) ps) x.before → x.before < end → (IsListed ps of end k ⊎ ((x.of ≡ of) × (x.at ≡ k))) ↔ IsListed ps of x.before k
+    → BucketEndsAt n (bucket_of n of) (take (end - 1) ps) x.before → x.before < end → (IsListed ps of end k ⊎ ((x.of ≡ of) × (x.at ≡ k)))
+    ↔ IsListed ps of x.before k
 listed_more n ps of end k x some here e less = (to, λ h. let d = row_done n ps of (end - 1) x.before k e h in from d (cases_lt d.0 end))
   where
     to : IsListed ps of end k ⊎ ((x.of ≡ of) × (x.at ≡ k)) → IsListed ps of x.before k
@@ -469,22 +438,23 @@ first_more P Q (Some a) q r e to here split h = (held e.0, λ p m. go p (split p
     go p (inl x) = omega (arith, e.1, h.1 p x)
     go p (inr x) = omega (arith, e.2, ap place_number x)
 
-module _ (ps : List Place) (marks : List Bool) (i : ℕ) (o : Option Place) (h : IsFirstPlace (IsLeft ps marks i) o) where
-  keeps : (p : Place) → IsLeft ps marks i p → IsLeft ps marks (i + 1) p
+module _ (ps : List Place) (marks : List Bool) (i : ℕ) (o : Option Place) (h : IsFirstPlace (IsLeftUnmarked ps marks i) o) where
+  keeps : (p : Place) → IsLeftUnmarked ps marks i p → IsLeftUnmarked ps marks (i + 1) p
   keeps p l = (l.0, omega (arith, l.1), l.2, l.3)
 
-  pub left_marked : get_or marks i false ≡ true → IsFirstPlace (IsLeft ps marks (i + 1)) o
-  left_marked on = first_same (IsLeft ps marks i) (IsLeft ps marks (i + 1)) o keeps (λ p l. back p l (cases_lt l.0 i)) h
+  pub left_marked : get_or marks i false ≡ true → IsFirstPlace (IsLeftUnmarked ps marks (i + 1)) o
+  left_marked on = first_same (IsLeftUnmarked ps marks i) (IsLeftUnmarked ps marks (i + 1)) o keeps (λ p l. back p l (cases_lt l.0 i)) h
     where
-      back : (p : Place) (l : IsLeft ps marks (i + 1) p) → (l.0 < i) ⊎ (i ≤ l.0) → IsLeft ps marks i p
+      back : (p : Place) (l : IsLeftUnmarked ps marks (i + 1) p) → (l.0 < i) ⊎ (i ≤ l.0) → IsLeftUnmarked ps marks i p
       back p l (inl c) = (l.0, c, l.2, l.3)
       back p l (inr c) = let e : i ≡ l.0 = omega (arith, l.1) in absurd (both_ways _ (ap (λ z. get_or marks z false) e ∙ l.3) on)
 
-  pub left_more : (q r : Place) → slice_get ps i ≡ Some q → get_or marks i false ≡ false → IsEarlier o q r → IsFirstPlace (IsLeft ps marks (i + 1)) (Some r)
+  pub left_more : (q r : Place) → slice_get ps i ≡ Some q → get_or marks i false ≡ false → IsEarlier o q r
+      → IsFirstPlace (IsLeftUnmarked ps marks (i + 1)) (Some r)
   left_more q r here off e =
-      first_more (IsLeft ps marks i) (IsLeft ps marks (i + 1)) o q r e keeps (i, omega arith, here, off) (λ p l. split p l (cases_lt l.0 i)) h
+      first_more (IsLeftUnmarked ps marks i) (IsLeftUnmarked ps marks (i + 1)) o q r e keeps (i, omega arith, here, off) (λ p l. split p l (cases_lt l.0 i)) h
     where
-      split : (p : Place) (l : IsLeft ps marks (i + 1) p) → (l.0 < i) ⊎ (i ≤ l.0) → IsLeft ps marks i p ⊎ (q ≡ p)
+      split : (p : Place) (l : IsLeftUnmarked ps marks (i + 1) p) → (l.0 < i) ⊎ (i ≤ l.0) → IsLeftUnmarked ps marks i p ⊎ (q ≡ p)
       split p l (inl c) = inl (l.0, c, l.2, l.3)
       split p l (inr c) =
           let d : i ≡ l.0 = omega (arith, l.1) in
@@ -494,12 +464,12 @@ module _ (ps : List Place) (marks : List Bool) (i : ℕ) (o : Option Place) (h :
 
 pub first_hang : (j : Job) (ls : List Seen) (marks : List Bool) (o : Option Place) → AreReached j (places_of_looks ls)
     → ((k : ℕ) (p : Place) → slice_get (places_of_looks ls) k ≡ Some p → (get_or marks k false ≡ true) ↔ CanEnd j p)
-    → IsFirstPlace (IsLeft (places_of_looks ls) marks (length ls)) o → IsFirstPlace (MayHang j) o
+    → IsFirstPlace (IsLeftUnmarked (places_of_looks ls) marks (length ls)) o → IsFirstPlace (MayHang j) o
 first_hang j ls marks o reached each h =
-    first_same (IsLeft (places_of_looks ls) marks (length ls)) (MayHang j) o
+    first_same (IsLeftUnmarked (places_of_looks ls) marks (length ls)) (MayHang j) o
     (λ p l. (reached.1 p (has_at (places_of_looks ls) l.0 p l.2), λ can. both_ways _ l.3 ((each l.0 p l.2).1 can))) from h
   where
-    from : (p : Place) → MayHang j p → IsLeft (places_of_looks ls) marks (length ls) p
+    from : (p : Place) → MayHang j p → IsLeftUnmarked (places_of_looks ls) marks (length ls) p
     from p m =
         let k = at_has (places_of_looks ls) p (reached.0 p m.0) in
         (k.0, omega (arith, k.1, number_of_places ls), k.2, false_from_ne_true _ (λ e. m.1 ((each k.0 p k.2).0 e)))

@@ -44,7 +44,7 @@ pub record IsOfKind (ls : List Seen) (os : List Offence) (n key at : ℕ) : Type
 
 -- for each byte of an argument the first place that takes it, and for each address and reason the
 -- first place that so offends
-pub record Finds (ls : List Seen) (os : List Offence) (f : Finder) : Type 0 where
+pub record FindsFirst (ls : List Seen) (os : List Offence) (f : Finder) : Type 0 where
   pub takers : IsIndex (TakesByte ls (length ls)) f.takers
   pub offenders : IsIndex (IsOfKind ls os (length os)) f.offenders
 

@@ -16,7 +16,7 @@ use Rattle.chan_why.specs.declared.hang.Predecessor.{Predecessor}
 use Rattle.chan_why.specs.declared.hang.Predecessors.{Predecessors}
 use Rattle.chan_walk.specs.Alarm.{AreBytes, ArePlaces, IsProper}
 use Rattle.chan_walk.specs.Argument.{Has}
-use Rattle.chan_walk.specs.Counted.{with_storage}
+use Rattle.chan_walk.specs.VerdictBytes.{with_storage}
 use Rattle.chan_walk.specs.Fault.{IsClear}
 use Rattle.chan_walk.specs.Guarded.{IsGuarded}
 use Rattle.chan_walk.specs.Headline.{EachMomentOfYes, IsSpared}
@@ -145,28 +145,28 @@ pub record ArePredecessors (ls : List Seen) (n : ℕ) (ps : List Predecessor) : 
   pub only : (at of : ℕ) → HasBefore ps of at → ComesBefore ls at of
   pub each : (at of : ℕ) → at < n → ComesBefore ls at of → HasBefore ps of at
 
--- of n rows the one of what comes before this
-abbrev pub row_of : ℕ → ℕ → ℕ
-row_of n of = of / 64 % n
+-- of n buckets the one of what comes before this
+abbrev pub bucket_of : ℕ → ℕ → ℕ
+bucket_of n of = of / 64 % n
 
--- the row r of a list ends at m: the last one of the row is right before m, if there is one
-pub record EndsAt (n r : ℕ) (ps : List Predecessor) (m : ℕ) : Type 0 where
+-- the bucket r of a list ends at m: the last one of the bucket is right before m, if there is one
+pub record BucketEndsAt (n r : ℕ) (ps : List Predecessor) (m : ℕ) : Type 0 where
   pub last : (k : ℕ) → m ≡ k + 1
-      → (p : Predecessor) × (slice_get ps k ≡ Some p) × (row_of n p.of ≡ r)
-  pub none : (i : ℕ) (p : Predecessor) → m ≤ i → slice_get ps i ≡ Some p → row_of n p.of ≡ r → ⊥
+      → (p : Predecessor) × (slice_get ps k ≡ Some p) × (bucket_of n p.of ≡ r)
+  pub none : (i : ℕ) (p : Predecessor) → m ≤ i → slice_get ps i ≡ Some p → bucket_of n p.of ≡ r → ⊥
 
--- it is told where each row ends, and for each predecessor where its row ends before it
-pub record AreRows (p : Predecessors) : Type 0 where
+-- it is told where each bucket ends, and for each predecessor where its bucket ends before it
+pub record AreBuckets (p : Predecessors) : Type 0 where
   pub some : 0 < length p.ends.items
   pub ends : (r : ℕ) → r < length p.ends.items
-      → EndsAt (length p.ends.items) r p.list.items (slice_index p.ends.items r)
+      → BucketEndsAt (length p.ends.items) r p.list.items (slice_index p.ends.items r)
   pub before : (i : ℕ) (x : Predecessor) → slice_get p.list.items i ≡ Some x
-      → EndsAt (length p.ends.items) (row_of (length p.ends.items) x.of)
+      → BucketEndsAt (length p.ends.items) (bucket_of (length p.ends.items) x.of)
       (take i p.list.items) x.before
 
 -- q is p with one more, where there is something
 pub record AddsPredecessor (at : ℕ) (o : Option ℕ) (p q : Predecessors) : Type 0 where
-  pub rows : AreRows q
+  pub buckets : AreBuckets q
   pub has : (of k : ℕ) → HasBefore q.list.items of k
       ↔ (HasBefore p.list.items of k ⊎ ((o ≡ Some of) × (at ≡ k)))
 
@@ -184,8 +184,8 @@ pub record FindsMore (n : ℕ) (P : ℕ → Type 0) (f g : Found) : Type 0 where
   pub found : (k : ℕ) → Has g.order.items k ↔ (Has f.order.items k ⊎ P k)
 
 -- one of the first n looks is at this place and has no mark
-abbrev pub IsLeft : List Place → List Bool → ℕ → Place → Type 0
-IsLeft ps marks n p =
+abbrev pub IsLeftUnmarked : List Place → List Bool → ℕ → Place → Type 0
+IsLeftUnmarked ps marks n p =
     (k : ℕ) × (k < n) × (slice_get ps k ≡ Some p) × (slice_index_or marks k false ≡ false)
 
 -- of two places, of which the first may be missing, r is the one that comes first

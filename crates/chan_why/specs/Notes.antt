@@ -18,7 +18,7 @@ use Rattle.chan_walk.specs.Fault.{is_known, kind_of}
 use Rattle.chan_walk.specs.Guarded.{IsGuarded}
 use Rattle.chan_walk.specs.Job.{fetch_of, storage_of, store_of}
 use Rattle.chan_walk.specs.Look.{Seen}
-use Rattle.chan_walk.specs.Moved.{IsFetchedFrom, IsStoredInto, Passes}
+use Rattle.chan_walk.specs.Moved.{IsFetchedFrom, IsStoredInto, PassesTest}
 use Rattle.chan_walk.specs.Place.{is_fresh}
 use Rattle.chan_areas.specs.Merged.{AreExactly}
 use Rattle.chan_walk.specs.Reachable.{IsReachable}
@@ -98,7 +98,7 @@ NothingFollows = (p : Place) (c : Fields) →
 pub record IsAddressOf (test : Place → Fields → Bool) (j : Job) (a : ℕ) : Type 0 where
   pub place : Place
   pub reached : IsReachable j place
-  pub passes : Passes test j place
+  pub passes : PassesTest test j place
   pub address : place.address ≡ a
 
 -- the list has the addresses of these CCWs, each once, rising
@@ -127,12 +127,12 @@ pub record AreUsed (Used : ℕ → Type 0) (areas used : List Area) : Type 0 whe
   pub right : (a : Area) → (is_used a ≡ true) ↔ HasUsedByte Used a
   pub are : used ≡ filter is_used areas
 
--- of the kept areas, which are the one merged list of the guarded bytes, these are the ones that
+-- of the guarded areas, which are the one merged list of the guarded bytes, these are the ones that
 -- have a byte into which the machine itself stores: each of them whole, and in order
 pub record AreMachineStores (j : Job) (areas : List Area) : Type 0 where
-  pub kept : List Area
-  pub guarded : AreExactly (IsGuarded j) kept
-  pub are : AreUsed IsMachineByte kept areas
+  pub guarded : List Area
+  pub are_guarded : AreExactly (IsGuarded j) guarded
+  pub are : AreUsed IsMachineByte guarded areas
 
 -- ---- all notes
 

@@ -4,7 +4,7 @@ use Rattle.chan_walk.specs.declared.job.Job.{Job}
 use Rattle.chan_walk.specs.declared.place.Place.{Place}
 use Rattle.chan_walk.specs.Paths.{IsFirstOf}
 use Rattle.chan_walk.specs.Reachable.{IsPath}
-use Rattle.chan_walk.specs.Walk.{IsBest}
+use Rattle.chan_walk.specs.Walk.{IsBestPath}
 
 -- the path to a place for which P holds: before lead to last, and they are the first of all such
 -- paths
@@ -27,7 +27,7 @@ pub record IsPathAt (j : Job) (ps : List Place) (k : ℕ) (places : List Place) 
   pub last : Place
   pub before : List Place
   pub is : places ≡ reverse (last ∷ before)
-  pub best : IsBest j ps k last before
+  pub best : IsBestPath j ps k last before
 
 -- the index of the first of the places for which P holds, or that it holds for none
 abbrev pub IsFirstWhere : (Place → Type 0) → List Place → Option ℕ → Type 0

@@ -9,7 +9,7 @@ use Rattle.chan_walk.specs.declared.place.Place.{Place}
 use Rattle.chan_walk.specs.declared.reason.Reason.{Reason}
 use Rattle.chan_walk.specs.declared.verdict.Verdict.{Verdict}
 use Rattle.chan_walk.specs.declared.verdict.Verdict.TheVariants.{Yes, No}
-use Rattle.chan_walk.specs.Alarm.{Shows}
+use Rattle.chan_walk.specs.Alarm.{ShowsReason}
 use Rattle.chan_walk.specs.Argument.{Has}
 use Rattle.chan_why.specs.Cause.{IsEvidence, IsSecondPath}
 use Rattle.chan_walk.specs.Place.{data_at, ccw_of}
@@ -36,7 +36,7 @@ abbrev pub IsWitness : Job → Verdict → List Place → Type 0
 IsWitness j Yes places = Unit {0}
 IsWitness j (No a r) places =
     (p : Place) × (before : List Place) × (places ≡ reverse (p ∷ before)) × (p.address ≡ a)
-    × Shows j p before r
+    × ShowsReason j p before r
 
 -- with a no, the evidence is that of the last of these places
 abbrev pub IsEvidenceOf : Job → Verdict → List Place → Option Evidence → Type 0
@@ -103,8 +103,9 @@ IsCauseOf j o e =
 -- ---- the first place found
 
 -- the list has an offence at p with the address and the reason of o
-abbrev pub IsLike : List Offence → Offence → Place → Type 0
-IsLike os o p = (p.address ≡ o.place.address) × Has os (record { place = p; reason = o.reason })
+abbrev pub HasLikeOffence : List Offence → Offence → Place → Type 0
+HasLikeOffence os o p = (p.address ≡ o.place.address)
+    × Has os (record { place = p; reason = o.reason })
 
 -- the path to the place of this index is the one to a place that offends as the offence does, and
 -- the evidence is that of its last place

@@ -73,6 +73,6 @@ fn changed_argument(survey: &Survey, finder: &Finder, range: Area) -> Evidence
         data: range,
         byte,
         taker: taker.place().address,
-        argument: taker.read().whole(),
+        argument: taker.operand().whole(),
     }
 }

@@ -5,7 +5,7 @@ ghost use Rattle.std.specs.BTreeMap as tree;
 ghost use Rattle.std.specs.Ordering.{nat_cmp};
 ghost use Rattle.chan_walk.specs.Argument.{Has};
 ghost use Rattle.chan_walk.specs.Places.{AreDistinct};
-ghost use Rattle.chan_why.specs.Finder.{Finds, IsAtPlace, IsIndex, IsLesserOf, IsOfKind};
+ghost use Rattle.chan_why.specs.Finder.{FindsFirst, IsAtPlace, IsIndex, IsLesserOf, IsOfKind};
 ghost use Rattle.chan_why.specs.Finder.{KeepsLeast, TakesByte};
 ghost use Rattle.chan_why.specs.Finder as index;
 ghost use Rattle.chan_walk.specs.JobSurvey.{IsSurvey};
@@ -31,7 +31,7 @@ impl Finder {
     /// Makes the index of a survey.
     pub(crate) fn new(alloc: Global, survey: &Survey) -> Result<Finder, AllocError>
         requires { (j : Job) × IsSurvey j survey.now }
-        ensures { IfOk result (Finds survey.now.looks survey.now.offences) }
+        ensures { IfOk result (FindsFirst survey.now.looks survey.now.offences) }
     {
         Ok(Finder {
             takers: takers_of(alloc, survey.looks())?,
@@ -120,7 +120,7 @@ fn offenders_of(
     looks: &[Look],
     offences: &[Offence],
 ) -> Result<BTreeMap<u64, usize>, AllocError>
-    requires apart { AreDistinct (places_of_looks looks.now) }
+    requires distinct { AreDistinct (places_of_looks looks.now) }
     requires seen { (o : declared.Offence) → Has offences.now o
         → Has (places_of_looks looks.now) o.place }
     ensures { IfOk result (IsIndex (IsOfKind looks.now offences.now (length offences.now))) }

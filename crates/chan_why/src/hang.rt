@@ -7,9 +7,9 @@ ghost use Rattle.chan_walk.specs.JobSurvey.{IsSurvey};
 ghost use Rattle.chan_walk.specs.Look.{AreLooks, places_of_looks};
 ghost use Rattle.chan_walk.specs.Places.{AreReached};
 ghost use Rattle.chan_why.specs.Hang as retraced;
-ghost use Rattle.chan_why.specs.Hang.{AddsPredecessor, ArePredecessors, AreRows, CanEnd, FindsMore};
-ghost use Rattle.chan_why.specs.Hang.{HasBefore, IsEarlier, IsFirstPlace, IsLeft, MarksFound};
-ghost use Rattle.chan_why.specs.Hang.{MayHang};
+ghost use Rattle.chan_why.specs.Hang.{AddsPredecessor, ArePredecessors, AreBuckets, CanEnd};
+ghost use Rattle.chan_why.specs.Hang.{FindsMore, HasBefore, IsEarlier, IsFirstPlace};
+ghost use Rattle.chan_why.specs.Hang.{IsLeftUnmarked, MarksFound, MayHang};
 ghost use Rattle.chan_walk.specs.declared.job.Job.{Job};
 ghost use Rattle.chan_walk.specs.declared.place.Place as places;
 ghost use Rattle.chan_why.specs.declared.hang.Predecessor as listed;
@@ -51,46 +51,46 @@ struct Predecessor {
     of: u64,
     /// The index of the look at it.
     at: usize,
-    /// Where its row ends before it.
+    /// Where its bucket ends before it.
     before: usize,
 }
 
-/// The places that come before others or before the end, in rows: what comes before one place is in
-/// one row, and with it what comes before few others.
+/// The places that come before others or before the end, in buckets: what comes before one place is
+/// in one bucket, and with it what comes before few others.
 #[derive(Drop)]
 struct Predecessors {
-    /// Those of all rows.
+    /// Those of all buckets.
     list: Vec<Predecessor>,
-    /// For each row where it ends: one more than the index of its last one; 0 if it has none.
+    /// For each bucket where it ends: one more than the index of its last one; 0 if it has none.
     ends: Vec<usize>,
 }
 
 impl Predecessors {
-    /// The row of what comes before something.
-    fn row(&self, of: u64) -> usize
+    /// The bucket of what comes before something.
+    fn bucket(&self, of: u64) -> usize
         requires { 0 < length self.now.ends.items }
-        ensures { result ≡ retraced.row_of (length self.now.ends.items) of }
+        ensures { result ≡ retraced.bucket_of (length self.now.ends.items) of }
     {
         (of / 64) as usize % self.ends.len()
     }
 
     /// Adds the place of a look as one that comes before something, if there is something.
     fn add(&mut self, at: usize, after: Option<u64>) -> Result<(), AllocError>
-        requires { AreRows self.old }
+        requires { AreBuckets self.old }
         ensures { OnOk result (AddsPredecessor at after self.old self.new) }
     {
         if let Some(of) = after {
-            let row = self.row(of);
-            let before = self.ends[row];
+            let bucket = self.bucket(of);
+            let before = self.ends[bucket];
             self.list.push(Predecessor { of, at, before })?;
-            self.ends[row] = self.list.len();
+            self.ends[bucket] = self.list.len();
         }
         Ok(())
     }
 
     /// Those of all looks.
     fn of_looks(alloc: Global, looks: &[Look]) -> Result<Predecessors, AllocError>
-        ensures rows { IfOk result AreRows }
+        ensures buckets { IfOk result AreBuckets }
         ensures are { IfOk result (λ p. ArePredecessors looks.now (length looks.now) p.list.items) }
     {
         let mut ends = Vec::new(alloc);
@@ -138,13 +138,13 @@ impl Found {
     /// Adds the looks at places that come before something.
     fn add_before(&mut self, predecessors: &Predecessors, of: u64) -> Result<(), AllocError>
         requires marked { MarksFound (length self.old.marks.items) self.old }
-        requires rows { AreRows predecessors.now }
+        requires buckets { AreBuckets predecessors.now }
         requires within { (p : listed.Predecessor) → Has predecessors.now.list.items p
             → p.at < length self.old.marks.items }
         ensures { OnOk result (FindsMore (length self.old.marks.items)
             (HasBefore predecessors.now.list.items of) self.old self.new) }
     {
-        let mut end = predecessors.ends[predecessors.row(of)];
+        let mut end = predecessors.ends[predecessors.bucket(of)];
         while end > 0 {
             let predecessor = predecessors.list[end - 1];
             self.add(predecessor, of)?;
@@ -183,7 +183,7 @@ pub fn can_end(alloc: Global, looks: &[Look]) -> Result<Vec<bool>, AllocError>
 /// The place of a look without a mark, the first in the order of places.
 fn first_left(looks: &[Look], marks: &[bool]) -> Option<Place>
     requires { length marks.now ≡ length looks.now }
-    ensures { IsFirstPlace (IsLeft (places_of_looks looks.now) marks.now (length looks.now))
+    ensures { IsFirstPlace (IsLeftUnmarked (places_of_looks looks.now) marks.now (length looks.now))
         result }
 {
     let mut first: Option<Place> = None;

@@ -19,7 +19,7 @@ ghost use Rattle.chan_walk.specs.declared.job.Job.{Job};
 use bitflags::Flags;
 use ccw_core::{Area, Ccw, CcwFlags};
 use chan_areas::{Merged, end_of};
-use chan_walk::{Direction, Guard, Job, Look, Survey, data_moved, kept};
+use chan_walk::{Direction, Guard, Job, Look, Survey, data_moved, guarded_areas};
 use ckd_core::Kind;
 use std::alloc::{AllocError, Global};
 
@@ -117,8 +117,8 @@ fn is_used(area: &Area, used: &Merged) -> bool
 fn machine_stores(alloc: Global, guard: &Guard) -> Result<Vec<Area>, AllocError>
     ensures { IfOk result (λ v. (j : Job) → Guards j guard.now → AreMachineStores j v.items) }
 {
-    let kept = kept(alloc, guard)?;
-    let areas = kept.as_slice();
+    let guarded = guarded_areas(alloc, guard)?;
+    let areas = guarded.as_slice();
     let mut met = Vec::new(alloc);
     for area in areas {
         if has_machine_byte(area) {

@@ -3,7 +3,7 @@
 
 ghost use Rattle.std.specs.Prelude.{◌≡◌, ◌<◌, true, false, None, IfOk, IfSome, length};
 ghost use Rattle.std.specs.List.{AllZip};
-ghost use Rattle.chan_why.specs.Finder.{Finds};
+ghost use Rattle.chan_why.specs.Finder.{FindsFirst};
 ghost use Rattle.chan_why.specs.Witness as specs;
 ghost use Rattle.chan_why.specs.Witness.{IsCaseOf, IsCauseOf, IsWitnessOf};
 ghost use Rattle.chan_walk.specs.Argument.{Has};
@@ -102,7 +102,7 @@ pub fn offence_at(survey: &Survey, address: u32) -> Option<Offence>
 fn case_of(survey: &Survey, finder: &Finder, offence: Offence) -> (usize, Evidence)
     requires listed { (j : Job) × IsSurvey j survey.now
         × Has survey.now.offences offence }
-    requires finds { Finds survey.now.looks survey.now.offences finder.now }
+    requires finds { FindsFirst survey.now.looks survey.now.offences finder.now }
     ensures within { result.0 < length survey.now.looks }
     ensures case { (j : Job) → IsSurvey j survey.now
         → IsCaseOf j (places_of_looks survey.now.looks) offence result.0 result.1 }

@@ -15,9 +15,9 @@ ghost use Rattle.chan_run.specs.Outcome.{IsWriteFailure};
 use ccw_core::Watched;
 use chan_args::{Action, Explained, ImageRequest, Request, read_request};
 use chan_run::{
-    Failure, ImageOptions, Naming, OptionError, Outcome, Response, answer, answer_image,
-    asked_address, deliver, ends_run, exit_status, explain_word, find_programs, greater_status,
-    list_words, note_usual_device, options_of, report, report_all_beside_of, report_file,
+    Failure, ImageOptions, Naming, OptionError, Outcome, Response, address_option, deliver,
+    ends_run, exit_status, explain_word, find_programs, greater_status, judge_deck, list_words,
+    make_deck, note_usual_device, options_of, report, report_all_with_of, report_file,
     report_grants, report_no_ccw, report_option, report_usage, respond_to_ccw, show, shown_word,
 };
 use std::alloc::AllocError;
@@ -78,7 +78,7 @@ impl Read for Input {
 
 fn main(rt: HostRuntime) -> ExitCode {
     ExitCode::from(match read_words(&rt) {
-        Ok(words) => answer_words(&rt, &words),
+        Ok(words) => carry_out(&rt, &words),
         Err(AllocError) => report_on(&rt, None, Outcome::Failed(Failure::OutOfMemory)),
     })
 }
@@ -116,7 +116,7 @@ fn read_word(rt: &HostRuntime, number: usize) -> Result<Option<Vec<u8>>, AllocEr
 }
 
 /// Does what the words ask for, and gives the exit status.
-fn answer_words(rt: &HostRuntime, words: &Words) -> u8 {
+fn carry_out(rt: &HostRuntime, words: &Words) -> u8 {
     match read_request(rt.alloc(), words.shown.as_slice()) {
         Request::Show(text) => show_ccw(rt, text),
         Request::ShowNamed(text) => deliver_out(rt, &respond_to_ccw(rt.alloc(), text.as_bytes())),
@@ -125,13 +125,13 @@ fn answer_words(rt: &HostRuntime, words: &Words) -> u8 {
             exit_status(run_over(rt, action, UNNAMED, Input::Standard(rt.stdin())))
         }
         Request::RunNamed(action, names) => run_over_each(rt, words, action, names.as_slice()),
-        Request::Image(request) => answer_request(rt, words, &request, false),
-        Request::Find(request) => answer_request(rt, words, &request, true),
+        Request::Image(request) => carry_out_request(rt, words, &request, false),
+        Request::Find(request) => carry_out_request(rt, words, &request, true),
         Request::Grants(fault) => report_grants(fault, &mut Watched::new(rt.stderr())),
         Request::ExplainOffence(address, names) => {
             explain_offences(rt, words, address, names.as_slice())
         }
-        Request::AllBesideOf => report_all_beside_of(&mut Watched::new(rt.stderr())),
+        Request::AllWithOf => report_all_with_of(&mut Watched::new(rt.stderr())),
         Request::Explain(parts) => explain(rt, parts.as_slice()),
         Request::ExplainFlags(flags) => explain(rt, &[flags]),
         Request::Words => list_terms(rt),
@@ -219,7 +219,7 @@ fn joined(rt: &HostRuntime, parts: &[&str]) -> Result<String, AllocError> {
 /// Explains the first offence at the address that a text spells, in each of these inputs, or in
 /// standard input if there is none.
 fn explain_offences(rt: &HostRuntime, words: &Words, address: &str, names: &[&str]) -> u8 {
-    let action = match asked_address(address) {
+    let action = match address_option(address) {
         Ok(address) => Action::Why(Explained::At(address)),
         Err(fault) => return report_option(fault, &mut Watched::new(rt.stderr())),
     };
@@ -341,7 +341,7 @@ fn run_over(rt: &HostRuntime, action: Action, naming: Naming<'_>, input: Input) 
     let mut input = Watched::new(input);
     let mut output = Watched::new(rt.stdout());
     let mut errors = Watched::new(rt.stderr());
-    answer(
+    judge_deck(
         rt.alloc(),
         naming,
         action,
@@ -352,7 +352,12 @@ fn run_over(rt: &HostRuntime, action: Action, naming: Naming<'_>, input: Input) 
 }
 
 /// Finds the programs in an image of storage, or makes a deck of it, and gives the exit status.
-fn answer_request(rt: &HostRuntime, words: &Words, request: &ImageRequest<'_>, finds: bool) -> u8 {
+fn carry_out_request(
+    rt: &HostRuntime,
+    words: &Words,
+    request: &ImageRequest<'_>,
+    finds: bool,
+) -> u8 {
     let options = match options_of(rt.alloc(), &request.words) {
         Ok(options) => options,
         Err(OptionError::Wrong(fault)) => {
@@ -368,16 +373,16 @@ fn answer_request(rt: &HostRuntime, words: &Words, request: &ImageRequest<'_>, f
         note_usual_device(&mut Watched::new(rt.stderr()));
     }
     match request.file {
-        None => answer_request_from(rt, None, &options, finds, Input::Standard(rt.stdin())),
+        None => carry_out_over(rt, None, &options, finds, Input::Standard(rt.stdin())),
         Some(name) => match open_file(rt, words, words.number_of(0, name)) {
-            Ok(file) => answer_request_from(rt, Some(name), &options, finds, Input::File(file)),
+            Ok(file) => carry_out_over(rt, Some(name), &options, finds, Input::File(file)),
             Err(outcome) => report_on(rt, Some(name), outcome),
         },
     }
 }
 
 /// Finds the programs in an image that may have a name, or makes a deck of it.
-fn answer_request_from(
+fn carry_out_over(
     rt: &HostRuntime,
     name: Option<&str>,
     options: &ImageOptions,
@@ -387,7 +392,7 @@ fn answer_request_from(
     if finds {
         return find_in(rt, name, options, input);
     }
-    make_deck(rt, name, options, input)
+    make_deck_from(rt, name, options, input)
 }
 
 /// Finds the programs in an image that may have a name, and gives the exit status.
@@ -406,11 +411,16 @@ fn find_in(rt: &HostRuntime, name: Option<&str>, options: &ImageOptions, input: 
 }
 
 /// Makes a deck of an image that may have a name, and gives the exit status.
-fn make_deck(rt: &HostRuntime, name: Option<&str>, options: &ImageOptions, input: Input) -> u8 {
+fn make_deck_from(
+    rt: &HostRuntime,
+    name: Option<&str>,
+    options: &ImageOptions,
+    input: Input,
+) -> u8 {
     let mut input = Watched::new(input);
     let mut output = Watched::new(rt.stdout());
     let mut errors = Watched::new(rt.stderr());
-    exit_status(answer_image(
+    exit_status(make_deck(
         rt.alloc(),
         name,
         options,

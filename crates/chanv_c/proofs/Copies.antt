@@ -4,7 +4,7 @@ use Rattle.chan_walk.specs.Job.{storage_of}
 use Rattle.chan_walk.specs.declared.place.Place.{Place}
 use Rattle.chan_needs.specs.Needs.{KeepsProgram}
 use Rattle.chan_needs.specs.Remembered.{HoldsAreas}
-use Rattle.chan_needs.specs.Rows.{Listed}
+use Rattle.chan_needs.specs.Listed.{Listed}
 use Rattle.chan_needs.proofs.Remembering.{same_device, same_held}
 use Rattle.chan_needs.proofs.Staying.{needs_stay}
 use Rattle.chanv_c.specs.declared.job.CJob.{CJob}

@@ -5,7 +5,7 @@ use Rattle.ccw_core.specs.Areas.{lies_in}
 use Rattle.ckd_core.specs.Extents.{has_cylinder}
 use Rattle.ckd_core.specs.Mask.{is_at_least}
 use Rattle.chan_walk.specs.declared.job.Job.{Job}
-use Rattle.chan_needs.specs.declared.remembered.Remembered.{Remembered}
+use Rattle.chan_needs.specs.declared.layout.Remembered.{Remembered}
 use Rattle.chan_needs.specs.Remembered.{HoldsAreas, device_number}
 use Rattle.chan_needs.specs.Start.{IsFit}
 use Rattle.chan_needs.proofs.Remembering.{same_device}
@@ -50,14 +50,14 @@ fits_alike j k p fs a fit = record {
     device = ap device_number (sym a.device) ∙ fit.program.device;
     storage_len = ap length (sym a.storage) ∙ fit.program.storage_len;
   };
-  kept = subst (λ (s : List ℕ). HoldsAreas s p.rows.keep.now p.kept.now) a.storage fit.kept;
+  kept = subst (λ (s : List ℕ). HoldsAreas s p.needs.keep.now p.kept.now) a.storage fit.kept;
   granted = record {
-    mask = subst (λ (m : ℕ). is_at_least p.rows.mask m ≡ true) a.mask fit.granted.mask;
+    mask = subst (λ (m : ℕ). is_at_least p.needs.mask m ≡ true) a.mask fit.granted.mask;
     extents = λ c h. subst (λ (es : List (ℕ × ℕ)). has_cylinder es c ≡ true) a.extents (fit.granted.extents c h);
     fetch = λ b h. let lent = fit.granted.fetch b h in
         (subst (λ (s : List ℕ). b < length s) a.storage lent.0, subst (λ (l : List Area). lies_in l b ≡ true) a.fetch lent.1);
     store = λ b h. let lent = fit.granted.store b h in
         (subst (λ (s : List ℕ). b < length s) a.storage lent.0, subst (λ (l : List Area). lies_in l b ≡ true) a.store lent.1);
   };
-  beside = fit.beside;
+  compatible = fit.compatible;
 }

@@ -1,5 +1,6 @@
 -- What the number of an answer says of the job.
-use Rattle.std.proofs.Common.{◌≡◌, ◌≢◌, ◌<◌, ◌≤◌, ◌⊎◌, ◌∷◌, [], ℕ, zero, suc, List, Some, true, ap, length, refl, arith, inl, inr, subst}
+use Rattle.std.proofs.Common.{◌≡◌, ◌≢◌, ◌<◌, ◌≤◌, ◌⊎◌, ◌∷◌, [], ℕ, zero, suc, List, Some, true, ap}
+use Rattle.std.proofs.Common.{length, refl, arith, inl, inr, subst}
 use Rattle.chanv_c.specs.declared.job.CJob.{CJob}
 use Rattle.chanv_c.specs.declared.refusal.JobFault.{JobFault}
 use Rattle.chanv_c.specs.declared.refusal.JobFault.TheVariants.{StorageTooLarge, NotADevice}
@@ -21,6 +22,7 @@ use Rattle.chan_walk.specs.declared.error.WalkError.TheVariants as walk
 use Rattle.std.proofs.lemmas.Result.{err_from_is_err_and}
 use Rattle.std.specs.Result.{IfErr, IsErrAnd}
 use Rattle.std.specs.declared.result.Result.{Result}
+use Rattle.ccw_core.specs.declared.ccw.TheConstants.{STORAGE_LIMIT}
 
 -- a fault's number is from 4 to 12, and not that of too little room
 fault_numbers : (f : JobFault) → (4 ≤ fault_code f) × (fault_code f ≤ 12) × (fault_code f ≢ 11)
@@ -89,7 +91,7 @@ no_other_device : (n : ℕ) → (n ≡ 2311) ⊎ (n ≡ 2314) → (n ≢ 2311) �
 no_other_device n (inl is) neither = neither.0 is
 no_other_device n (inr is) neither = neither.1 is
 
-module _ (c : CJob) (small : length c.storage.now ≤ 16777216) (device : (c.device ≡ 2311) ⊎ (c.device ≡ 2314))
+module _ (c : CJob) (small : length c.storage.now ≤ STORAGE_LIMIT) (device : (c.device ≡ 2311) ⊎ (c.device ≡ 2314))
     (mask : is_mask c.mask ≡ true) (extents : AreExtents (extents_asked c)) (low : 1 ≤ c.limit) (high : c.limit ≤ 65536)
     (reserved : c.reserved ≡ 0 ∷ 0 ∷ 0 ∷ 0 ∷ []) where
   no_fault : (f : JobFault) → HasJobFault c f → ⊥

@@ -1,8 +1,8 @@
--- Rows written one after the other.
+-- Places written one after the other.
 use Rattle.std.proofs.Common.{◌≡◌, ◌<◌, ◌++◌, ℕ, zero, suc, Some, List, [], ◌∷◌, drop, length, map}
 use Rattle.std.proofs.Common.{take, set, slice_get, ap, sym, arith}
 
--- a row is written where the rows so far end
+-- a place is written where those so far end
 pub one_more : {X Y : Type 0} (f : X → Y) (xs : List X) (ys : List Y) (i : ℕ) (x : X) → slice_get xs i ≡ Some x → i < length ys
     → set (map f (take i xs) ++ drop i ys) i (f x) ≡ map f (take (suc i) xs) ++ drop (suc i) ys
 one_more f [] ys i x is within = absurd cc

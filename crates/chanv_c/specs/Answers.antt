@@ -13,10 +13,11 @@ use Rattle.chan_walk.specs.Reason.{number_of}
 use Rattle.chanv_c.specs.declared.job.CJob.{CJob}
 use Rattle.chanv_c.specs.declared.refusal.Refusal.{Refusal}
 use Rattle.chanv_c.specs.declared.refusal.Refusal.TheVariants.{TooManyPlaces, Memory, Wrong}
-use Rattle.chanv_c.specs.declared.rows.CPlace.{CPlace}
+use Rattle.chanv_c.specs.declared.writing.CPlace.{CPlace}
 use Rattle.chanv_c.specs.Job.{IsAskedJob}
 use Rattle.chanv_c.specs.Faults.{HasNoFault, HasNoneBelow, IsFirstFault, HasFaultCode}
 use Rattle.chanv_c.specs.Faults.{fault_code, fault_extent}
+use Rattle.chanv_c.specs.declared.codes.TheConstants as codes
 
 -- the verdict on the job that C asks about, with all that an answer promises
 pub record IsJudged (c : CJob) (v : Verdict) : Type 0 where
@@ -36,9 +37,9 @@ pub record HasTooMany (c : CJob) : Type 0 where
   pub asked : IsAskedJob c job
   pub many : HasMoreThan job c.limit
 
--- the row of a place
-abbrev pub place_row : Place → CPlace
-place_row p =
+-- a place for C
+abbrev pub place_for_c : Place → CPlace
+place_for_c p =
     record {
       address = p.address;
       entered = entry_number p.entered;
@@ -46,7 +47,7 @@ place_row p =
     }
 
 -- the reachable places, each once, in order; no more than the job's limit
-pub record AreFound (c : CJob) (places : List Place) : Type 0 where
+pub record AreJobPlaces (c : CJob) (places : List Place) : Type 0 where
   pub job : Job
   pub asked : IsAskedJob c job
   pub are : AreReachable job places
@@ -55,15 +56,15 @@ pub record AreFound (c : CJob) (places : List Place) : Type 0 where
 -- so many places are reachable
 pub record HasPlaces (c : CJob) (count : ℕ) : Type 0 where
   pub places : List Place
-  pub found : AreFound c places
+  pub found : AreJobPlaces c places
   pub count_is : length places ≡ count
 
--- the rows of the reachable places, so many, stand first; what stood behind them stands there still
+-- the reachable places, so many, stand first; what stood behind them stands there still
 pub record AreListed (c : CJob) (count : ℕ) (old new : List CPlace) : Type 0 where
   pub places : List Place
-  pub found : AreFound c places
+  pub found : AreJobPlaces c places
   pub count_is : length places ≡ count
-  pub rows : new ≡ map place_row places ++ drop count old
+  pub written : new ≡ map place_for_c places ++ drop count old
 
 -- what a walk that gave no answer comes to
 abbrev pub refusal_after : WalkError → Refusal
@@ -72,8 +73,8 @@ refusal_after walk.Memory = Memory
 
 -- the number of a refusal in the header
 abbrev pub refusal_code : Refusal → ℕ
-refusal_code TooManyPlaces = 2
-refusal_code Memory = 3
+refusal_code TooManyPlaces = codes.TOO_MANY_PLACES
+refusal_code Memory = codes.MEMORY
 refusal_code (Wrong f) = fault_code f
 
 -- the index of the extent that is wrong, else 0
@@ -82,20 +83,20 @@ refusal_extent TooManyPlaces = 0
 refusal_extent Memory = 0
 refusal_extent (Wrong f) = fault_extent f
 
--- what a refusal says of the job, by what it says that too many places are reachable. The faults 4
--- to 7 are looked for before memory is taken, so an allocation is refused only without them
+-- what a refusal says of the job, by what it says that too many places are reachable. Memory is
+-- taken only after a look for the faults before a backward extent, so an allocation is refused only
+-- without these
 abbrev pub IsRefusal : Type 0 → CJob → Refusal → Type 0
 IsRefusal crowded c TooManyPlaces = crowded × HasNoFault c
-IsRefusal crowded c Memory = HasNoneBelow c 8
+IsRefusal crowded c Memory = HasNoneBelow c codes.EXTENT_BACKWARDS
 IsRefusal crowded c (Wrong f) = IsFirstFault c f
 
--- what the number of an answer says, and the extent told with it: 2 that too many places are
--- reachable; 3 that no fault comes before memory is taken; and from 4 on, but for 11, that the job
--- has the fault of this number first. A job that has a fault gets no answer, nor is there too
--- little room for one
+-- what the number of an answer says, and the extent told with it: that too many places are
+-- reachable; that no fault comes before memory is taken; or that the job has the fault of this
+-- number first. A job that has a fault gets no answer, nor is there too little room for one
 pub record IsAnswerCode (crowded : Type 0) (c : CJob) (code extent : ℕ) : Type 0 where
-  pub many : code ≡ 2 → crowded
-  pub memory : code ≡ 3 → HasNoneBelow c 8
-  pub refused : 4 ≤ code → code ≢ 11 → HasFaultCode c code extent
-  pub accepted : (code < 3) ⊎ (code ≡ 11) → HasNoFault c
-  pub last : code ≤ 12
+  pub many : code ≡ codes.TOO_MANY_PLACES → crowded
+  pub memory : code ≡ codes.MEMORY → HasNoneBelow c codes.EXTENT_BACKWARDS
+  pub refused : codes.STORAGE_TOO_LARGE ≤ code → code ≢ codes.NO_ROOM → HasFaultCode c code extent
+  pub accepted : (code < codes.MEMORY) ⊎ (code ≡ codes.NO_ROOM) → HasNoFault c
+  pub last : code ≤ codes.RESERVED_NOT_ZERO

@@ -87,6 +87,6 @@ abbrev pub fields_of : Evidence → CEvidence
 fields_of e = record (values_of e) { reason = number_of (reason_of e) }
 
 -- no reason and no value where there is no cause
-abbrev pub cause_told : Option Evidence → CEvidence
-cause_told None = no_values
-cause_told (Some e) = fields_of e
+abbrev pub cause_for_c : Option Evidence → CEvidence
+cause_for_c None = no_values
+cause_for_c (Some e) = fields_of e

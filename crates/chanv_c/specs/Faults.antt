@@ -11,11 +11,13 @@ use Rattle.chanv_c.specs.declared.refusal.JobFault.TheVariants.{NotAMask, NoExte
 use Rattle.chanv_c.specs.declared.refusal.JobFault.TheVariants.{ExtentPastDevice, NotALimit}
 use Rattle.chanv_c.specs.declared.refusal.JobFault.TheVariants.{ReservedNotZero}
 use Rattle.chanv_c.specs.Job.{extents_asked}
+use Rattle.ccw_core.specs.declared.ccw.TheConstants.{STORAGE_LIMIT}
+use Rattle.chanv_c.specs.declared.codes.TheConstants as codes
 
 -- this is wrong with the job; of the extents only the first from the left that is wrong is named,
 -- counted from 0
 abbrev pub HasJobFault : CJob → JobFault → Type 0
-HasJobFault c StorageTooLarge = 16777216 < length c.storage.now
+HasJobFault c StorageTooLarge = STORAGE_LIMIT < length c.storage.now
 HasJobFault c NotADevice = (c.device ≢ 2311) × (c.device ≢ 2314)
 HasJobFault c NotAMask = is_mask c.mask ≡ false
 HasJobFault c NoExtent = extents_asked c ≡ []
@@ -26,14 +28,14 @@ HasJobFault c ReservedNotZero = c.reserved ≢ 0 ∷ 0 ∷ 0 ∷ 0 ∷ []
 
 -- the number of a fault in the header, by whose order the first fault is the one that counts
 abbrev pub fault_code : JobFault → ℕ
-fault_code StorageTooLarge = 4
-fault_code NotADevice = 5
-fault_code NotAMask = 6
-fault_code NoExtent = 7
-fault_code (ExtentBackwards i) = 8
-fault_code (ExtentPastDevice i) = 9
-fault_code NotALimit = 10
-fault_code ReservedNotZero = 12
+fault_code StorageTooLarge = codes.STORAGE_TOO_LARGE
+fault_code NotADevice = codes.NOT_A_DEVICE
+fault_code NotAMask = codes.NOT_A_MASK
+fault_code NoExtent = codes.NO_EXTENT
+fault_code (ExtentBackwards i) = codes.EXTENT_BACKWARDS
+fault_code (ExtentPastDevice i) = codes.EXTENT_PAST_DEVICE
+fault_code NotALimit = codes.NOT_A_LIMIT
+fault_code ReservedNotZero = codes.RESERVED_NOT_ZERO
 
 -- the index of the extent that is wrong, else 0
 abbrev pub fault_extent : JobFault → ℕ
@@ -57,7 +59,7 @@ HasNoFault c = (f : JobFault) → HasJobFault c f → ⊥
 -- a job within all bounds has none
 abbrev pub RightHasNoFault : Type 0
 RightHasNoFault =
-    (c : CJob) → length c.storage.now ≤ 16777216 → (c.device ≡ 2311) ⊎ (c.device ≡ 2314)
+    (c : CJob) → length c.storage.now ≤ STORAGE_LIMIT → (c.device ≡ 2311) ⊎ (c.device ≡ 2314)
     → is_mask c.mask ≡ true → AreExtents (extents_asked c) → 1 ≤ c.limit → c.limit ≤ 65536
     → c.reserved ≡ 0 ∷ 0 ∷ 0 ∷ 0 ∷ [] → HasNoFault c
 

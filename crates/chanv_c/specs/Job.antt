@@ -4,7 +4,7 @@ use Rattle.ccw_core.specs.Held.{bytes_held}
 use Rattle.chan_walk.specs.declared.job.Job.{Job}
 use Rattle.chan_walk.specs.Job.{extents_of, fetch_of, storage_of, store_of}
 use Rattle.chan_needs.specs.Remembered.{device_number}
-use Rattle.chan_needs.specs.Rows.{pair}
+use Rattle.chan_needs.specs.Listed.{pair}
 use Rattle.chanv_c.specs.declared.job.CJob.{CJob}
 use Rattle.chanv_c.specs.declared.job.Ready.{Ready}
 

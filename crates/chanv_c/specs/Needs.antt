@@ -11,18 +11,18 @@ use Rattle.chan_walk.specs.Answers.{IsAnswer}
 use Rattle.chan_walk.specs.Job.{storage_of}
 use Rattle.chan_walk.specs.Places.{HasMoreThan, entry_number}
 use Rattle.chan_walk.specs.OpenJob.{open_job, IsOpenJob}
-use Rattle.chan_needs.specs.Rows.{AreNeeds, Listed, listed}
+use Rattle.chan_needs.specs.Listed.{AreNeeds, Listed, listed}
 use Rattle.chan_walk.specs.Verdict.{IsVerdict}
 use Rattle.chan_why.specs.Hang.{IsFirstPlace, MayHang}
 use Rattle.chan_needs.specs.Remembered.{HoldsAreas, bytes_in, device_number, total_len}
-use Rattle.chan_needs.specs.declared.extent.Extent.{Extent}
+use Rattle.chan_needs.specs.declared.layout.Extent.{Extent}
 use Rattle.chanv_c.specs.declared.job.CJob.{CJob}
 use Rattle.chanv_c.specs.declared.needs.CNeeded.{CNeeded}
-use Rattle.chanv_c.specs.declared.needs.Found.{Found}
-use Rattle.chanv_c.specs.declared.needs.Found.TheVariants as found
+use Rattle.chanv_c.specs.declared.needs.FoundNeeds.{FoundNeeds}
+use Rattle.chanv_c.specs.declared.needs.FoundNeeds.TheVariants as found
 use Rattle.chanv_c.specs.declared.verify.CVerdict.{CVerdict}
 use Rattle.chanv_c.specs.Job.{IsAskedJob}
-use Rattle.chanv_c.specs.Why.{verdict_told}
+use Rattle.chanv_c.specs.Why.{verdict_for_c}
 
 -- ---- the open job
 
@@ -53,19 +53,19 @@ pub record AreNeedsOf (c : CJob) (n : Listed) (hang : Option Place) : Type 0 whe
   pub hangs : IsFirstPlace (MayHang judged.opened) hang
 
 -- what was found of the program: its needs, or the no of its open job
-abbrev pub IsFound : CJob → Found → Type 0
-IsFound c (found.Needed n hang) = AreNeedsOf c (listed n) hang
-IsFound c (found.NoJob a r) = IsJudgedOpenly c (No a r)
+abbrev pub IsFoundNeeds : CJob → FoundNeeds → Type 0
+IsFoundNeeds c (found.Needed n hang) = AreNeedsOf c (listed n) hang
+IsFoundNeeds c (found.NoJob a r) = IsJudgedOpenly c (No a r)
 
 -- ---- what is told
 
--- the row of a run of cylinders
-abbrev pub run_row : ℕ × ℕ → Extent
-run_row r = record { first = r.0; last = r.1 }
+-- a run of cylinders for C
+abbrev pub extent_for_c : ℕ × ℕ → Extent
+extent_for_c r = record { first = r.0; last = r.1 }
 
 -- only a verdict, or which extent is wrong
-abbrev pub told_alone : CVerdict → CNeeded
-told_alone v = record {
+abbrev pub without_needs : CVerdict → CNeeded
+without_needs v = record {
   verdict = v;
   extent_count = 0;
   fetch_count = 0;
@@ -93,11 +93,11 @@ abbrev pub hang_entry : Option Place → ℕ
 hang_entry None = 0
 hang_entry (Some p) = entry_number p.entered
 
--- how many rows each list has, how many bytes are kept, how long storage is, the mask, and where
+-- how long each list is, how many bytes are kept, how long storage is, the mask, and where
 -- the program may hang
-abbrev pub told_needs : Listed → Option Place → CNeeded
-told_needs n hang = record {
-  verdict = verdict_told Yes;
+abbrev pub needs_for_c : Listed → Option Place → CNeeded
+needs_for_c n hang = record {
+  verdict = verdict_for_c Yes;
   extent_count = length n.extents;
   fetch_count = length n.fetch;
   store_count = length n.store;
@@ -112,23 +112,23 @@ told_needs n hang = record {
 }
 
 -- some job will do, and this is told of what the program needs
-pub record AreToldNeeds (c : CJob) (n : Listed) (hang : Option Place) (out : CNeeded) : Type 0
+pub record AreNeedsForC (c : CJob) (n : Listed) (hang : Option Place) (out : CNeeded) : Type 0
   where
     pub needs : AreNeedsOf c n hang
-    pub out_is : out ≡ told_needs n hang
+    pub out_is : out ≡ needs_for_c n hang
 
 -- no job will do, and this is told: the verdict on the open job
-pub record IsToldNo (c : CJob) (out : CNeeded) : Type 0 where
+pub record IsWrittenNo (c : CJob) (out : CNeeded) : Type 0 where
   pub address : ℕ
   pub reason : Reason
   pub judged : IsJudgedOpenly c (No address reason)
-  pub out_is : out ≡ told_alone (verdict_told (No address reason))
+  pub out_is : out ≡ without_needs (verdict_for_c (No address reason))
 
--- the rows stand first; what stood behind them stands there still
+-- the list stands first; what stood behind them stands there still
 abbrev pub StandFirst : {X : Type 0} → List X → List X → List X → Type 0
-StandFirst rows old new = new ≡ rows ++ drop (length rows) old
+StandFirst list old new = new ≡ list ++ drop (length list) old
 
--- each list has room for its rows, and there is room for the bytes that are kept
+-- each list has room, and there is room for the bytes that are kept
 pub record HaveRoom (n : Listed) (runs : List Extent) (fetched stored areas : List Area)
     (bytes : List ℕ) : Type 0 where
   pub extents : length n.extents ≤ length runs
@@ -155,15 +155,15 @@ AreNeedsWhereHeld c n kept =
     → length (storage_of k) ≡ length c.storage.now → HoldsAreas (storage_of k) n.keep kept
     → AreNeeds k n
 
--- the needs of the program of c are told, all their rows and the kept bytes are written, and they
+-- the needs of the program of c are told, all their lists and the kept bytes are written, and they
 -- are the needs wherever these bytes are held
 pub record AreWrittenNeeds (c : CJob) (out : CNeeded) (runs new_runs : List Extent)
     (fetched new_fetched stored new_stored areas new_areas : List Area) (bytes new_bytes : List ℕ)
     : Type 0 where
   pub needs : Listed
   pub hang : Option Place
-  pub told : AreToldNeeds c needs hang out
-  pub extents : StandFirst (map run_row needs.extents) runs new_runs
+  pub found : AreNeedsForC c needs hang out
+  pub extents : StandFirst (map extent_for_c needs.extents) runs new_runs
   pub fetch : StandFirst needs.fetch fetched new_fetched
   pub store : StandFirst needs.store stored new_stored
   pub keep : StandFirst needs.keep areas new_areas
@@ -171,10 +171,10 @@ pub record AreWrittenNeeds (c : CJob) (out : CNeeded) (runs new_runs : List Exte
   pub held : HoldsAreas c.storage.now needs.keep new_bytes
   pub stays : AreNeedsWhereHeld c needs new_bytes
 
--- the needs of the program of c are told, but there is too little room for the rows and the bytes
+-- the needs of the program of c are told, but there is too little room for the lists and the bytes
 pub record HaveTooLittleRoom (c : CJob) (out : CNeeded) (runs : List Extent)
     (fetched stored areas : List Area) (bytes : List ℕ) : Type 0 where
   pub needs : Listed
   pub hang : Option Place
-  pub told : AreToldNeeds c needs hang out
+  pub found : AreNeedsForC c needs hang out
   pub room : HaveRoom needs runs fetched stored areas bytes → ⊥

@@ -3,20 +3,21 @@ use Rattle.std.specs.Prelude.{◌≡◌, ℕ, List, [], ◌∷◌, Some, ◌⊎�
 use Rattle.std.specs.List.{All, AllWithin}
 use Rattle.ccw_core.specs.declared.areas.Area.{Area}
 use Rattle.chan_walk.specs.declared.job.Job.{Job}
-use Rattle.chan_needs.specs.declared.remembered.Remembered.{Remembered}
-use Rattle.chan_needs.specs.declared.rows.Conflict.TheVariants as way
+use Rattle.chan_needs.specs.declared.layout.Remembered.{Remembered}
+use Rattle.chan_needs.specs.declared.conflict.Conflict.TheVariants as way
 use Rattle.chan_needs.specs.declared.start.StartRefusal.{StartRefusal}
 use Rattle.chan_needs.specs.declared.start.StartRefusal.TheVariants as why
 use Rattle.chan_needs.specs.declared.start.Start.TheVariants as answer
 use Rattle.chan_needs.specs.Needs.{Grants, KeepsProgram}
 use Rattle.chan_needs.specs.Remembered.{HoldsKept, IsInFlightAt, IsKeeperOf, IsRemembered}
-use Rattle.chan_needs.specs.Start.{IsAnswerOf, IsBeside, IsFit, StartsWell}
+use Rattle.chan_needs.specs.Start.{IsAnswerOf, IsCompatibleWith, IsFit, StartsWell}
 use Rattle.chanv_c.specs.declared.job.CJob.{CJob}
 use Rattle.chanv_c.specs.declared.start.CRefusal.{CRefusal}
-use Rattle.chanv_c.specs.declared.start.StartCheck.{StartCheck}
-use Rattle.chanv_c.specs.declared.start.StartCheck.TheVariants.{Later, LaterInFlight, Asked}
+use Rattle.chanv_c.specs.declared.start.StartReply.{StartReply}
+use Rattle.chanv_c.specs.declared.start.StartReply.TheVariants.{Later, LaterInFlight, Asked}
 use Rattle.chanv_c.specs.Faults.{HasNoFault}
 use Rattle.chanv_c.specs.Job.{IsAskedJob}
+use Rattle.chanv_c.specs.declared.codes.TheConstants as codes
 
 -- ---- whether a program may start
 
@@ -32,18 +33,19 @@ IsFirstLater fs i =
 
 -- each answer, for the job that is the one that C asks about: only of programs of this version
 -- anything else is said
-abbrev pub IsCheckUnder : Job → Remembered → List Remembered → StartCheck → Type 0
-IsCheckUnder j p fs Later = IsOfThisVersion p → ⊥
-IsCheckUnder j p fs (LaterInFlight i) = IsOfThisVersion p × IsFirstLater fs i
-IsCheckUnder j p fs (Asked s) = IsOfThisVersion p × All IsOfThisVersion fs × IsAnswerOf j p fs s
+abbrev pub IsStartReplyUnder : Job → Remembered → List Remembered → StartReply → Type 0
+IsStartReplyUnder j p fs Later = IsOfThisVersion p → ⊥
+IsStartReplyUnder j p fs (LaterInFlight i) = IsOfThisVersion p × IsFirstLater fs i
+IsStartReplyUnder j p fs (Asked s) = IsOfThisVersion p × All IsOfThisVersion fs
+    × IsAnswerOf j p fs s
 
 -- the answer for what C asks; if what C remembers is true, a program with a yes may start; and one
 -- of this version that fits has a yes
-pub record IsCheckOf (c : CJob) (p : Remembered) (fs : List Remembered) (k : StartCheck) : Type 0
+pub record IsStartReply (c : CJob) (p : Remembered) (fs : List Remembered) (k : StartReply) : Type 0
   where
     pub job : Job
     pub asked : IsAskedJob c job
-    pub check : IsCheckUnder job p fs k
+    pub reply : IsStartReplyUnder job p fs k
     pub well : k ≡ Asked answer.Yes → StartsWell job p fs
     pub due :
         IsOfThisVersion p → All IsOfThisVersion fs → IsFit job p fs → k ≡ Asked answer.Yes
@@ -56,11 +58,11 @@ pub record StartsWellFor (c : CJob) (p : Remembered) (fs : List Remembered) : Ty
 
 -- if what C remembers of the program of `was` is true, a job without a fault, over storage that
 -- holds what was kept, that grants what the program needs is answered so, provided that the program
--- is beside each in flight, and all are of this version
+-- is compatible with each in flight, and all are of this version
 abbrev pub StartsIfDue : CJob → Remembered → List Remembered → Type 0 → Type 0
 StartsIfDue c p fs Answered =
     (was job : Job) → IsRemembered was p → IsAskedJob c job → HasNoFault c → KeepsProgram was job
-    → HoldsKept job p → Grants was job → All (IsBeside p) fs
+    → HoldsKept job p → Grants was job → All (IsCompatibleWith p) fs
     → p.reserved ≡ 0 ∷ 0 ∷ 0 ∷ 0 ∷ [] → All (λ f. f.reserved ≡ 0 ∷ 0 ∷ 0 ∷ 0 ∷ []) fs → Answered
 
 -- ---- what is told
@@ -76,46 +78,49 @@ refused code value = record {
 }
 
 -- nothing but which extent is wrong
-abbrev pub nothing_told : ℕ → CRefusal
-nothing_told extent = record (refused 0 0) { extent = extent }
+abbrev pub no_refusal_for_c : ℕ → CRefusal
+no_refusal_for_c extent = record (refused 0 0) { extent = extent }
 
 -- the number of a refusal, its address or cylinder, and the number of one in flight
-abbrev pub refusal_told : StartRefusal → CRefusal
-refusal_told why.OtherStart = refused 1 0
-refusal_told why.OtherDevice = refused 2 0
-refusal_told why.OtherLength = refused 3 0
-refusal_told (why.Changed b) = refused 4 b
-refusal_told why.Mask = refused 5 0
-refusal_told (why.Cylinder c) = refused 6 c
-refusal_told (why.Fetch b) = refused 7 b
-refusal_told (why.Store b) = refused 8 b
-refusal_told (why.Beside i (way.Stores b)) = record (refused 9 b) { program = i }
-refusal_told (why.Beside i (way.Keeps b)) = record (refused 10 b) { program = i }
+abbrev pub refusal_for_c : StartRefusal → CRefusal
+refusal_for_c why.OtherStart = refused codes.REFUSED_OTHER_START 0
+refusal_for_c why.OtherDevice = refused codes.REFUSED_OTHER_DEVICE 0
+refusal_for_c why.OtherLength = refused codes.REFUSED_OTHER_LENGTH 0
+refusal_for_c (why.Changed b) = refused codes.REFUSED_CHANGED b
+refusal_for_c why.Mask = refused codes.REFUSED_MASK 0
+refusal_for_c (why.Cylinder c) = refused codes.REFUSED_NO_CYLINDER c
+refusal_for_c (why.Fetch b) = refused codes.REFUSED_NOT_FETCHABLE b
+refusal_for_c (why.Store b) = refused codes.REFUSED_NOT_STORABLE b
+refusal_for_c (why.Conflict i (way.Stores b)) =
+    record (refused codes.REFUSED_STORES_OVER_KEPT b) { program = i }
+refusal_for_c (why.Conflict i (way.Keeps b)) =
+    record (refused codes.REFUSED_KEEPS_STORED_OVER b) { program = i }
 
 -- what is told with an answer
-abbrev pub check_told : StartCheck → CRefusal
-check_told Later = refused 12 0
-check_told (LaterInFlight i) = record (refused 13 0) { program = i }
-check_told (Asked answer.Yes) = nothing_told 0
-check_told (Asked (answer.No r)) = refusal_told r
+abbrev pub start_reply_for_c : StartReply → CRefusal
+start_reply_for_c Later = refused codes.REFUSED_RESERVED 0
+start_reply_for_c (LaterInFlight i) =
+    record (refused codes.REFUSED_RESERVED_IN_FLIGHT 0) { program = i }
+start_reply_for_c (Asked answer.Yes) = no_refusal_for_c 0
+start_reply_for_c (Asked (answer.No r)) = refusal_for_c r
 
 -- the number of an answer in the header
-abbrev pub check_code : StartCheck → ℕ
-check_code Later = 1
-check_code (LaterInFlight i) = 1
-check_code (Asked answer.Yes) = 0
-check_code (Asked (answer.No r)) = 1
+abbrev pub start_reply_code : StartReply → ℕ
+start_reply_code Later = codes.NO
+start_reply_code (LaterInFlight i) = codes.NO
+start_reply_code (Asked answer.Yes) = codes.YES
+start_reply_code (Asked (answer.No r)) = codes.NO
 
 -- ---- who may write
 
 -- what is told of the first that keeps a byte, and of the least such byte
-abbrev pub keeper_told : ℕ → ℕ → CRefusal
-keeper_told i b = record (refused 11 b) { program = i }
+abbrev pub keeper_for_c : ℕ → ℕ → CRefusal
+keeper_for_c i b = record (refused codes.REFUSED_WRITES_OVER_KEPT b) { program = i }
 
 -- why others may not write: a program in flight has a field of a later version, or else keeps a
 -- byte of the area
 abbrev pub IsWriteRefused : List Remembered → Area → CRefusal → Type 0
 IsWriteRefused fs a out =
-    ((i : ℕ) × IsFirstLater fs i × (out ≡ check_told (LaterInFlight i)))
+    ((i : ℕ) × IsFirstLater fs i × (out ≡ start_reply_for_c (LaterInFlight i)))
     ⊎ (All IsOfThisVersion fs × ((i : ℕ) × (b : ℕ) × IsKeeperOf fs a (Some (i, b))
-    × (out ≡ keeper_told i b)))
+    × (out ≡ keeper_for_c i b)))

@@ -10,13 +10,14 @@ use Rattle.chan_why.specs.Witness.{IsWitnessOf}
 use Rattle.chan_walk.specs.Offence.{AreOffences, first_verdict}
 use Rattle.chan_deck.specs.Explanation.{IsExplanationText}
 use Rattle.chanv_c.specs.declared.job.CJob.{CJob}
-use Rattle.chanv_c.specs.declared.text.Told.{Told}
+use Rattle.chanv_c.specs.declared.text.VerdictText.{VerdictText}
 use Rattle.chanv_c.specs.Job.{IsAskedJob}
 use Rattle.chanv_c.specs.Needs.{IsOpenFor}
+use Rattle.chanv_c.specs.declared.codes.TheConstants as codes
 
 -- the verdict on a job, with all that an answer promises, and the text that explains it: of all
 -- offences, and of what shows the first of them
-pub record IsTextOn (job : Job) (t : Told) : Type 0 where
+pub record IsTextOn (job : Job) (t : VerdictText) : Type 0 where
   pub answer : IsAnswer job t.verdict
   pub offences : List Offence
   pub offending : AreOffences job offences
@@ -26,24 +27,24 @@ pub record IsTextOn (job : Job) (t : Told) : Type 0 where
   pub text : IsExplanationText job offences [] witness (string_bytes t.text)
 
 -- it is on the job that C asks about
-abbrev pub IsText : CJob → Told → Type 0
+abbrev pub IsText : CJob → VerdictText → Type 0
 IsText c t = (job : Job) × IsAskedJob c job × IsTextOn job t
 
 -- it is on the open job of the program that C asks about
-abbrev pub IsOpenText : CJob → Told → Type 0
+abbrev pub IsOpenText : CJob → VerdictText → Type 0
 IsOpenText c t = (opened : Job) × IsOpenFor c opened × IsTextOn opened t
 
 -- the number of a verdict in the header
 abbrev pub verdict_code : Verdict → ℕ
-verdict_code Yes = 0
-verdict_code (No a r) = 1
+verdict_code Yes = codes.YES
+verdict_code (No a r) = codes.NO
 
 -- the text stands first, so many bytes long; what stood behind it stands there still
-pub record IsToldWhole (t : Told) (count : ℕ) (old new : List ℕ) : Type 0 where
+pub record IsWrittenWhole (t : VerdictText) (count : ℕ) (old new : List ℕ) : Type 0 where
   pub count_is : count ≡ length (string_bytes t.text)
   pub stands : new ≡ string_bytes t.text ++ drop (length (string_bytes t.text)) old
 
 -- the text has so many bytes, more than there is room for
-abbrev pub IsTooLong : Told → ℕ → List ℕ → Type 0
+abbrev pub IsTooLong : VerdictText → ℕ → List ℕ → Type 0
 IsTooLong t count buffer =
     (count ≡ length (string_bytes t.text)) × (length buffer < count)

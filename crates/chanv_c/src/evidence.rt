@@ -199,8 +199,8 @@ fn values_of(evidence: Evidence) -> CEvidence
 }
 
 /// The number of the reason and the values of a cause; all zeros without a cause.
-pub(crate) fn cause_told(evidence: Option<Evidence>) -> CEvidence
-    ensures { result ≡ specs.cause_told evidence }
+pub(crate) fn cause_for_c(evidence: Option<Evidence>) -> CEvidence
+    ensures { result ≡ specs.cause_for_c evidence }
 {
     match evidence {
         Some(evidence) => CEvidence {

@@ -4,13 +4,13 @@ ghost use Rattle.std.specs.Prelude.{◌≡◌, ◌≢◌, [], map, IfOk, IfErr, 
 ghost use Rattle.ccw_core.specs.Held.{bytes_held};
 ghost use Rattle.chanv_c.specs.Answers.{IsRefusal};
 ghost use Rattle.chan_needs.specs.Remembered.{device_number};
-ghost use Rattle.chan_needs.specs.Rows.{pair};
+ghost use Rattle.chan_needs.specs.Listed.{pair};
 ghost use Rattle.chanv_c.specs.Job.{IsAskedJob, IsReady, extents_asked};
 ghost use Rattle.chanv_c.specs.Faults.{HasNoFault, HasNoneBelow, IsFirstFault};
 
 use crate::refusal::{JobFault, Refusal};
 use ccw_core::{Area, Storage};
-use chan_needs::{Extent, or_empty};
+use chan_needs::{Extent, or_empty, pairs_of};
 use chan_walk::{Job, Limit};
 use ckd_core::{Device, ExtentError, Extents, FileMask};
 use std::alloc::{AllocError, Global};
@@ -75,18 +75,6 @@ fn parts_of<'a>(asked: &CJob<'a>) -> Result<Parts<'a>, JobFault>
         device,
         mask,
     })
-}
-
-/// The extents as pairs.
-fn pairs_of(alloc: Global, extents: &[Extent]) -> Result<Vec<(u16, u16)>, AllocError>
-    ensures pairs { IfOk result (λ pairs. pairs.items ≡ map pair extents.now) }
-    ensures some { IfErr result (λ e. extents.now ≢ []) }
-{
-    let mut pairs = Vec::new(alloc);
-    for extent in or_empty(extents) {
-        pairs.push((extent.first, extent.last))?;
-    }
-    Ok(pairs)
 }
 
 /// The extents of the file, or their fault.

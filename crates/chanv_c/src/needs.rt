@@ -6,22 +6,25 @@ ghost use Rattle.std.specs.List.{All};
 ghost use Rattle.chan_areas.specs.Merged.{IsMerged};
 ghost use Rattle.chan_needs.specs.Remembered.{HoldsAreas, IsInside, bytes_in, total_len};
 ghost use Rattle.chan_walk.specs.OpenJob.{open_job, IsOpenJob};
-ghost use Rattle.chan_needs.specs.Rows.{listed};
+ghost use Rattle.chan_needs.specs.Listed.{listed};
 ghost use Rattle.chan_walk.specs.Verdict.{IsVerdict};
 ghost use Rattle.chan_walk.specs.declared.verdict.Verdict as declared;
 ghost use Rattle.chanv_c.specs.Answers.{IsAnswerCode, IsRefusal};
 ghost use Rattle.chanv_c.specs.Job.{IsAskedJob};
 ghost use Rattle.chanv_c.specs.Faults.{HasNoFault};
 ghost use Rattle.chanv_c.specs.Needs.{AreWrittenNeeds, HasTooManyOpenly, HaveRoom};
-ghost use Rattle.chanv_c.specs.Needs.{HaveTooLittleRoom, IsFound, IsOver, IsToldNo, StandFirst};
-ghost use Rattle.chanv_c.specs.Needs.{told_alone, told_needs};
+ghost use Rattle.chanv_c.specs.Needs.{HaveTooLittleRoom, IsFoundNeeds, IsOver, IsWrittenNo};
+ghost use Rattle.chanv_c.specs.Needs.{StandFirst, without_needs, needs_for_c};
 ghost use Rattle.chanv_c.specs.declared.job.CJob as asked;
+ghost use Rattle.chanv_c.specs.declared.codes.TheConstants.{MEMORY, NO, NO_ROOM, YES};
+ghost use Rattle.chanv_c.specs.declared.codes.TheConstants.{CHANGED_MEANWHILE, TOO_MANY_PLACES};
+ghost use Rattle.chanv_c.specs.declared.codes.TheConstants.{STORAGE_TOO_LARGE};
 
 use crate::codes::{CHANGED_MEANWHILE, MEMORY, NO, NO_ROOM, YES};
 use crate::job::{CJob, make_ready};
 use crate::refusal::Refusal;
-use crate::rows::{entry_number, write_areas, write_runs};
 use crate::verify::CVerdict;
+use crate::writing::{entry_number, write_list};
 use ccw_core::{Area, Storage};
 use chan_needs::{Extent, Needs, copy_kept, kept_len, needs_from, or_empty};
 use chan_walk::{Job, OpenJob, Place, Reason, Verdict, survey};
@@ -51,7 +54,7 @@ pub struct CNeeded {
 
 /// What the open job shows of a program.
 #[derive(Drop)]
-pub(crate) enum Found {
+pub(crate) enum FoundNeeds {
     /// What it needs and keeps, and the first place at which it may hang.
     Needed(Needs, Option<Place>),
     /// No job will do: this is the no of the open job.
@@ -59,14 +62,13 @@ pub(crate) enum Found {
 }
 
 /// The needs of the job's program in each job that it runs under, and the bytes that it keeps,
-/// whatever is written to storage meanwhile: 0 if some job will do, and each list has room for its
-/// rows and `kept` for the bytes in the rows of `keep`; 1 if no job will do, with the verdict on
-/// the open job; 11 if a list or `kept` has too little room, with all that 0 gives except rows and
-/// bytes; 13 if storage changed during the call. Otherwise it says why there is no answer, like
-/// `chanv_verify`: 2 counts the places that are reachable under the open job, and 3 comes too if
-/// the copy isn't as long as storage. All else is written as 0. The lists and `kept` are written
-/// only for
-/// 0. The job's own grants don't matter.
+/// whatever is written to storage meanwhile: `YES` if some job will do, and there is room for each
+/// list and for the kept bytes; `NO` if no job will do, with the verdict on the open job; `NO_ROOM`
+/// if a list or `kept` has too little room, with all that `YES` gives except lists and bytes;
+/// `CHANGED_MEANWHILE` if storage changed during the call. Otherwise it says why there is no
+/// answer, like `chanv_verify`: `TOO_MANY_PLACES` counts those that are reachable under the open
+/// job, and `MEMORY` comes too if the copy isn't as long as storage. All else is written as 0. The
+/// lists and `kept` are written only for `YES`. The job's own grants don't matter.
 ///
 /// A first look at storage only says which bytes to copy. The call reads each of these bytes once
 /// more, and judges the copy, which nothing else writes. Before the call the copy may hold
@@ -83,33 +85,34 @@ pub extern "C" fn needs_by_copy(
     keep: &mut [Area],
     kept: &mut [u8],
 ) -> u32
-    ensures yes { result ≡ 0 → (c : asked.CJob) × IsOver job.now copy.new c
+    ensures yes { result ≡ YES → (c : asked.CJob) × IsOver job.now copy.new c
         × AreWrittenNeeds c out.new extents.old extents.new fetch.old fetch.new store.old store.new
         keep.old keep.new kept.old kept.new }
-    ensures no { result ≡ 1 → IsToldNo job.now out.new }
-    ensures room { result ≡ 11 → (c : asked.CJob) × IsOver job.now copy.new c
+    ensures no { result ≡ NO → IsWrittenNo job.now out.new }
+    ensures room { result ≡ NO_ROOM → (c : asked.CJob) × IsOver job.now copy.new c
         × HaveTooLittleRoom c out.new extents.old fetch.old store.old keep.old kept.old }
-    ensures left { result ≢ 0 → (extents.new ≡ extents.old) × (fetch.new ≡ fetch.old)
+    ensures left { result ≢ YES → (extents.new ≡ extents.old) × (fetch.new ≡ fetch.old)
         × (store.new ≡ store.old) × (keep.new ≡ keep.old) × (kept.new ≡ kept.old) }
-    ensures number { result ≢ 13 → IsAnswerCode (HasTooManyOpenly job.now) job.now result
-        out.new.verdict.extent }
-    ensures nothing { 2 ≤ result → result ≢ 11 → out.new
-        ≡ told_alone (record { extent = out.new.verdict.extent; address = 0; reason = 0 }) }
-    ensures no_extent { (result < 4) ⊎ (result ≡ 13) → out.new.verdict.extent ≡ 0 }
+    ensures number { result ≢ CHANGED_MEANWHILE
+        → IsAnswerCode (HasTooManyOpenly job.now) job.now result out.new.verdict.extent }
+    ensures nothing { TOO_MANY_PLACES ≤ result → result ≢ NO_ROOM → out.new
+        ≡ without_needs (record { extent = out.new.verdict.extent; address = 0; reason = 0 }) }
+    ensures no_extent { (result < STORAGE_TOO_LARGE) ⊎ (result ≡ CHANGED_MEANWHILE)
+        → out.new.verdict.extent ≡ 0 }
 {
     let first = match needs_of(alloc, job) {
-        Ok(Found::Needed(needs, _)) => needs,
-        Ok(Found::NoJob { address, reason }) => {
-            *out = alone(0, address, u32::from(reason.number()));
+        Ok(FoundNeeds::Needed(needs, _)) => needs,
+        Ok(FoundNeeds::NoJob { address, reason }) => {
+            *out = without_needs(0, address, u32::from(reason.number()));
             return NO;
         }
         Err(refusal) => {
-            *out = alone(refusal.extent(), 0, 0);
+            *out = without_needs(refusal.extent(), 0, 0);
             return refusal.code();
         }
     };
     if !copy_areas(job, first.keep.as_slice(), copy) {
-        *out = alone(0, 0, 0);
+        *out = without_needs(0, 0, 0);
         return MEMORY;
     }
     let still = CJob {
@@ -162,47 +165,49 @@ fn needs_over(
     keep: &mut [Area],
     kept: &mut [u8],
 ) -> u32
-    ensures yes { result ≡ 0 → AreWrittenNeeds still.now out.new extents.old extents.new
+    ensures yes { result ≡ YES → AreWrittenNeeds still.now out.new extents.old extents.new
         fetch.old fetch.new store.old store.new keep.old keep.new kept.old kept.new }
-    ensures room { result ≡ 11 → HaveTooLittleRoom still.now out.new extents.old fetch.old store.old
-        keep.old kept.old }
-    ensures left { result ≢ 0 → (extents.new ≡ extents.old) × (fetch.new ≡ fetch.old)
+    ensures room { result ≡ NO_ROOM → HaveTooLittleRoom still.now out.new extents.old fetch.old
+        store.old keep.old kept.old }
+    ensures left { result ≢ YES → (extents.new ≡ extents.old) × (fetch.new ≡ fetch.old)
         × (store.new ≡ store.old) × (keep.new ≡ keep.old) × (kept.new ≡ kept.old) }
-    ensures code { (result ≡ 0) ⊎ (result ≡ 3) ⊎ (result ≡ 11) ⊎ (result ≡ 13) }
-    ensures nothing { (result ≡ 3) ⊎ (result ≡ 13) → out.new
-        ≡ told_alone (record { extent = 0; address = 0; reason = 0 }) }
+    ensures code { (result ≡ YES) ⊎ (result ≡ MEMORY) ⊎ (result ≡ NO_ROOM)
+        ⊎ (result ≡ CHANGED_MEANWHILE) }
+    ensures nothing { (result ≡ MEMORY) ⊎ (result ≡ CHANGED_MEANWHILE) → out.new
+        ≡ without_needs (record { extent = 0; address = 0; reason = 0 }) }
 {
     let (needs, hang) = match needs_of(alloc, still) {
-        Ok(Found::Needed(needs, hang)) => (needs, hang),
+        Ok(FoundNeeds::Needed(needs, hang)) => (needs, hang),
         Err(Refusal::Memory) => {
-            *out = alone(0, 0, 0);
+            *out = without_needs(0, 0, 0);
             return MEMORY;
         }
         _ => {
-            *out = alone(0, 0, 0);
+            *out = without_needs(0, 0, 0);
             return CHANGED_MEANWHILE;
         }
     };
     if needs.keep.as_slice() != copied {
-        *out = alone(0, 0, 0);
+        *out = without_needs(0, 0, 0);
         return CHANGED_MEANWHILE;
     }
-    let told = told(&needs, hang);
-    *out = told;
-    if !have_room(&needs, told.kept_len, extents, fetch, store, keep, kept) {
+    let found = needs_for_c(&needs, hang);
+    *out = found;
+    if !have_room(&needs, found.kept_len, extents, fetch, store, keep, kept) {
         return NO_ROOM;
     }
-    write_runs(needs.extents.as_slice(), extents);
-    write_areas(needs.fetch.as_slice(), fetch);
-    write_areas(needs.store.as_slice(), store);
-    write_areas(needs.keep.as_slice(), keep);
+    write_list(needs.extents.as_slice(), extents);
+    write_list(needs.fetch.as_slice(), fetch);
+    write_list(needs.store.as_slice(), store);
+    write_list(needs.keep.as_slice(), keep);
     write_kept(still, needs.keep.as_slice(), kept);
     YES
 }
 
 /// The answer without needs: all zeros except a verdict or the index of an extent.
-fn alone(extent: usize, address: u32, reason: u32) -> CNeeded
-    ensures { result ≡ told_alone (record { extent = extent; address = address; reason = reason }) }
+fn without_needs(extent: usize, address: u32, reason: u32) -> CNeeded
+    ensures { result
+        ≡ without_needs (record { extent = extent; address = address; reason = reason }) }
 {
     CNeeded {
         verdict: CVerdict {
@@ -224,10 +229,10 @@ fn alone(extent: usize, address: u32, reason: u32) -> CNeeded
     }
 }
 
-/// The answer about needs and the first place at which the program may hang, without the rows.
-fn told(needs: &Needs, hang: Option<Place>) -> CNeeded
+/// The answer about needs and the first place at which the program may hang, without the lists.
+fn needs_for_c(needs: &Needs, hang: Option<Place>) -> CNeeded
     requires { IsMerged needs.now.keep.items }
-    ensures { result ≡ told_needs (listed needs.now) hang }
+    ensures { result ≡ needs_for_c (listed needs.now) hang }
 {
     let (may_hang, hangs_at, hangs_entered) = match hang {
         Some(place) => (1, place.address, entry_number(place.entered)),
@@ -253,7 +258,7 @@ fn told(needs: &Needs, hang: Option<Place>) -> CNeeded
     }
 }
 
-/// Whether each list has room for its rows, and `kept` for so many bytes.
+/// Whether each list has room, and `kept` for so many bytes.
 fn have_room(
     needs: &Needs,
     kept_len: usize,
@@ -289,8 +294,8 @@ fn write_kept(asked: &CJob<'_>, keep: &[Area], kept: &mut [u8])
 }
 
 /// What the open job shows of the program that C asks about.
-fn needs_of(alloc: Global, asked: &CJob<'_>) -> Result<Found, Refusal>
-    ensures answer { IfOk result (IsFound asked.now) }
+fn needs_of(alloc: Global, asked: &CJob<'_>) -> Result<FoundNeeds, Refusal>
+    ensures answer { IfOk result (IsFoundNeeds asked.now) }
     ensures right { OnOk result (HasNoFault asked.now) }
     ensures refusal { IfErr result (IsRefusal (HasTooManyOpenly asked.now) asked.now) }
 {
@@ -301,21 +306,21 @@ fn needs_of(alloc: Global, asked: &CJob<'_>) -> Result<Found, Refusal>
 }
 
 /// Judges a program by its open job.
-fn found_on(alloc: Global, asked: &CJob<'_>, job: &Job, opened: &Job) -> Result<Found, Refusal>
+fn found_on(alloc: Global, asked: &CJob<'_>, job: &Job, opened: &Job) -> Result<FoundNeeds, Refusal>
     requires asked { IsAskedJob asked.now job.now }
     requires right { HasNoFault asked.now }
     requires opened { IsOpenJob job.now opened.now }
     requires verdict { (v : declared.Verdict) → IsVerdict opened.now v
         ↔ IsVerdict (open_job job.now) v }
-    ensures found { IfOk result (IsFound asked.now) }
+    ensures found { IfOk result (IsFoundNeeds asked.now) }
     ensures refusal { IfErr result (IsRefusal (HasTooManyOpenly asked.now) asked.now) }
 {
     let survey = survey(alloc, opened)?;
     match survey.verdict() {
         Verdict::Yes => {
             let needs = needs_from(alloc, opened, &survey)?;
-            Ok(Found::Needed(needs, hang_from(alloc, &survey)?))
+            Ok(FoundNeeds::Needed(needs, hang_from(alloc, &survey)?))
         }
-        Verdict::No { address, reason } => Ok(Found::NoJob { address, reason }),
+        Verdict::No { address, reason } => Ok(FoundNeeds::NoJob { address, reason }),
     }
 }

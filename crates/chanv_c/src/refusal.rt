@@ -4,6 +4,10 @@ ghost use Rattle.std.specs.Prelude.{◌≡◌};
 ghost use Rattle.chanv_c.specs.Answers.{refusal_code, refusal_extent};
 ghost use Rattle.chanv_c.specs.Faults.{fault_code, fault_extent};
 
+use crate::codes::{
+    EXTENT_BACKWARDS, EXTENT_PAST_DEVICE, MEMORY, NO_EXTENT, NOT_A_DEVICE, NOT_A_LIMIT, NOT_A_MASK,
+    RESERVED_NOT_ZERO, STORAGE_TOO_LARGE, TOO_MANY_PLACES,
+};
 use chan_walk::WalkError;
 use std::alloc::AllocError;
 
@@ -34,14 +38,14 @@ impl JobFault {
         ensures { result ≡ fault_code self }
     {
         match self {
-            JobFault::StorageTooLarge => 4,
-            JobFault::NotADevice => 5,
-            JobFault::NotAMask => 6,
-            JobFault::NoExtent => 7,
-            JobFault::ExtentBackwards(_) => 8,
-            JobFault::ExtentPastDevice(_) => 9,
-            JobFault::NotALimit => 10,
-            JobFault::ReservedNotZero => 12,
+            JobFault::StorageTooLarge => STORAGE_TOO_LARGE,
+            JobFault::NotADevice => NOT_A_DEVICE,
+            JobFault::NotAMask => NOT_A_MASK,
+            JobFault::NoExtent => NO_EXTENT,
+            JobFault::ExtentBackwards(_) => EXTENT_BACKWARDS,
+            JobFault::ExtentPastDevice(_) => EXTENT_PAST_DEVICE,
+            JobFault::NotALimit => NOT_A_LIMIT,
+            JobFault::ReservedNotZero => RESERVED_NOT_ZERO,
         }
     }
 
@@ -98,8 +102,8 @@ impl Refusal {
         ensures { result ≡ refusal_code self }
     {
         match self {
-            Refusal::TooManyPlaces => 2,
-            Refusal::Memory => 3,
+            Refusal::TooManyPlaces => TOO_MANY_PLACES,
+            Refusal::Memory => MEMORY,
             Refusal::Wrong(fault) => fault.code(),
         }
     }

@@ -7,16 +7,18 @@ ghost use Rattle.chan_needs.specs.Remembered.{IsKeeperOf, WritesWell};
 ghost use Rattle.chanv_c.specs.Answers.{IsAnswerCode, IsRefusal};
 ghost use Rattle.chanv_c.specs.Faults.{HasNoFault};
 ghost use Rattle.chanv_c.specs.Start as specs;
-ghost use Rattle.chanv_c.specs.Start.{IsCheckOf, IsFirstLater, IsOfThisVersion, IsWriteRefused};
-ghost use Rattle.chanv_c.specs.Start.{StartsIfDue, StartsWellFor, check_code, check_told};
-ghost use Rattle.chanv_c.specs.Start.{nothing_told};
-ghost use Rattle.chanv_c.specs.Start.{refusal_told};
-ghost use Rattle.chanv_c.specs.declared.start.StartCheck as declared;
+ghost use Rattle.chanv_c.specs.Start.{IsStartReply, IsFirstLater, IsOfThisVersion, IsWriteRefused};
+ghost use Rattle.chanv_c.specs.Start.{StartsIfDue, StartsWellFor, start_reply_code};
+ghost use Rattle.chanv_c.specs.Start.{start_reply_for_c, no_refusal_for_c, refusal_for_c};
+ghost use Rattle.chanv_c.specs.declared.start.StartReply as declared;
+ghost use Rattle.chanv_c.specs.declared.codes.TheConstants.{MEMORY, NO, NO_ROOM, YES};
+ghost use Rattle.chanv_c.specs.declared.codes.TheConstants.{STORAGE_TOO_LARGE};
 
 use crate::codes::{
-    CHANGED, KEEPS_STORED_OVER, MASK, NO, NO_CYLINDER, NOT_FETCHABLE, NOT_STORABLE, OTHER_DEVICE,
-    OTHER_LENGTH, OTHER_START, RESERVED, RESERVED_IN_FLIGHT, STORES_OVER_KEPT, WRITES_OVER_KEPT,
-    YES,
+    NO, REFUSED_CHANGED, REFUSED_KEEPS_STORED_OVER, REFUSED_MASK, REFUSED_NO_CYLINDER,
+    REFUSED_NOT_FETCHABLE, REFUSED_NOT_STORABLE, REFUSED_OTHER_DEVICE, REFUSED_OTHER_LENGTH,
+    REFUSED_OTHER_START, REFUSED_RESERVED, REFUSED_RESERVED_IN_FLIGHT, REFUSED_STORES_OVER_KEPT,
+    REFUSED_WRITES_OVER_KEPT, YES,
 };
 use crate::job::{CJob, make_ready};
 use crate::refusal::Refusal;
@@ -35,9 +37,9 @@ pub struct CRefusal {
     pub reserved: [u64; 4],
 }
 
-/// Whether a remembered program may start under the job, together with the programs in flight: 0 if
-/// it may; 1 if not, with the first refusal in `out`. Otherwise it says why there is no answer,
-/// like `chanv_verify`, with the first wrong extent if there is one.
+/// Whether a remembered program may start under the job, together with the programs in flight:
+/// `YES` if it may; `NO` if not, with the first refusal in `out`. Otherwise it says why there is no
+/// answer, like `chanv_verify`, with the first wrong extent if there is one.
 ///
 /// A zeroed program may not start, and in flight it stops no other program.
 #[unsafe(no_mangle)]
@@ -48,37 +50,38 @@ pub extern "C" fn chanv_check_start(
     program: &Remembered<'_>,
     out: &mut CRefusal,
 ) -> u32
-    ensures answer { result ≤ 1 → (k : declared.StartCheck)
-        × IsCheckOf job.now program.now in_flight.now k
-        × (result ≡ check_code k) × (out.new ≡ check_told k) }
+    ensures answer { result ≤ NO → (k : declared.StartReply)
+        × IsStartReply job.now program.now in_flight.now k
+        × (result ≡ start_reply_code k) × (out.new ≡ start_reply_for_c k) }
 
     // If what is remembered is true, a program with a yes may start.
-    ensures well { result ≡ 0 → StartsWellFor job.now program.now in_flight.now }
+    ensures well { result ≡ YES → StartsWellFor job.now program.now in_flight.now }
 
     // If what is remembered is true, a program that fits has a yes, unless memory runs out.
-    ensures due { StartsIfDue job.now program.now in_flight.now ((result ≡ 0) ⊎ (result ≡ 3)) }
+    ensures due { StartsIfDue job.now program.now in_flight.now
+        ((result ≡ YES) ⊎ (result ≡ MEMORY)) }
 
-    ensures version { result ≡ 0 → (program.now.reserved ≡ 0 ∷ 0 ∷ 0 ∷ 0 ∷ [])
+    ensures version { result ≡ YES → (program.now.reserved ≡ 0 ∷ 0 ∷ 0 ∷ 0 ∷ [])
         × All (λ f. f.reserved ≡ 0 ∷ 0 ∷ 0 ∷ 0 ∷ []) in_flight.now }
     ensures number { IsAnswerCode ⊥ job.now result out.new.extent }
-    ensures room { result ≢ 11 }
-    ensures nothing { 1 < result → out.new ≡ nothing_told out.new.extent }
-    ensures no_extent { result < 4 → out.new.extent ≡ 0 }
+    ensures room { result ≢ NO_ROOM }
+    ensures nothing { NO < result → out.new ≡ no_refusal_for_c out.new.extent }
+    ensures no_extent { result < STORAGE_TOO_LARGE → out.new.extent ≡ 0 }
 {
-    match checked(alloc, job, in_flight, program) {
-        Ok(check) => {
-            *out = told(check);
-            code_of(check)
+    match start_reply(alloc, job, in_flight, program) {
+        Ok(reply) => {
+            *out = start_reply_for_c(reply);
+            start_reply_code(reply)
         }
         Err(refusal) => {
-            *out = nothing(refusal.extent());
+            *out = no_refusal_for_c(refusal.extent());
             refusal.code()
         }
     }
 }
 
-/// Whether others may write to the area now: 0 if each program in flight is of this version and
-/// keeps no byte of the area; otherwise 1, with the first refusal in `out`. The call takes no
+/// Whether others may write to the area now: `YES` if each program in flight is of this version and
+/// keeps no byte of the area; otherwise `NO`, with the first refusal in `out`. The call takes no
 /// memory.
 #[unsafe(no_mangle)]
 pub extern "C" fn chanv_check_write(
@@ -86,32 +89,32 @@ pub extern "C" fn chanv_check_write(
     area: &Area,
     out: &mut CRefusal,
 ) -> u32
-    ensures spared { result ≡ 0 → IsKeeperOf in_flight.now area.now None }
-    ensures version { result ≡ 0
+    ensures spared { result ≡ YES → IsKeeperOf in_flight.now area.now None }
+    ensures version { result ≡ YES
         → All (λ f. f.reserved ≡ 0 ∷ 0 ∷ 0 ∷ 0 ∷ []) in_flight.now }
     ensures free { IsKeeperOf in_flight.now area.now None
-        → All (λ f. f.reserved ≡ 0 ∷ 0 ∷ 0 ∷ 0 ∷ []) in_flight.now → result ≡ 0 }
+        → All (λ f. f.reserved ≡ 0 ∷ 0 ∷ 0 ∷ 0 ∷ []) in_flight.now → result ≡ YES }
 
     // If what is remembered of those in flight is true, the history goes on with what is written.
-    ensures well { result ≡ 0 → WritesWell in_flight.now area.now }
+    ensures well { result ≡ YES → WritesWell in_flight.now area.now }
 
-    ensures kept { result ≡ 1 → IsWriteRefused in_flight.now area.now out.new }
-    ensures nothing { result ≡ 0 → out.new ≡ nothing_told 0 }
-    ensures codes { result ≤ 1 }
+    ensures kept { result ≡ NO → IsWriteRefused in_flight.now area.now out.new }
+    ensures nothing { result ≡ YES → out.new ≡ no_refusal_for_c 0 }
+    ensures codes { result ≤ NO }
 {
     if let Some(number) = first_later(in_flight) {
-        *out = told(StartCheck::LaterInFlight(number));
+        *out = start_reply_for_c(StartReply::LaterInFlight(number));
         return NO;
     }
     match may_write(in_flight, *area) {
         None => {
-            *out = nothing(0);
+            *out = no_refusal_for_c(0);
             YES
         }
         Some((program, byte)) => {
             *out = CRefusal {
                 program,
-                ..refused(WRITES_OVER_KEPT, byte)
+                ..refused(REFUSED_WRITES_OVER_KEPT, byte)
             };
             NO
         }
@@ -120,7 +123,7 @@ pub extern "C" fn chanv_check_write(
 
 /// The answer to the question whether a program may start.
 #[derive(Clone, Copy)]
-pub(crate) enum StartCheck {
+pub(crate) enum StartReply {
     /// It has fields of a later version.
     Later,
     /// The program in flight with this number is the first with fields of a later version.
@@ -143,8 +146,8 @@ fn refused(code: u32, value: u32) -> CRefusal
 }
 
 /// The refusal of an answer that isn't a refusal: all zeros except the index of a wrong extent.
-fn nothing(extent: usize) -> CRefusal
-    ensures { result ≡ nothing_told extent }
+fn no_refusal_for_c(extent: usize) -> CRefusal
+    ensures { result ≡ no_refusal_for_c extent }
 {
     CRefusal {
         extent,
@@ -153,75 +156,75 @@ fn nothing(extent: usize) -> CRefusal
 }
 
 /// The fields of a refusal.
-fn told_of(refusal: StartRefusal) -> CRefusal
-    ensures { result ≡ refusal_told refusal }
+fn refusal_for_c(refusal: StartRefusal) -> CRefusal
+    ensures { result ≡ refusal_for_c refusal }
 {
     match refusal {
-        StartRefusal::OtherStart => refused(OTHER_START, 0),
-        StartRefusal::OtherDevice => refused(OTHER_DEVICE, 0),
-        StartRefusal::OtherLength => refused(OTHER_LENGTH, 0),
-        StartRefusal::Changed(byte) => refused(CHANGED, byte),
-        StartRefusal::Mask => refused(MASK, 0),
-        StartRefusal::Cylinder(cylinder) => refused(NO_CYLINDER, u32::from(cylinder)),
-        StartRefusal::Fetch(byte) => refused(NOT_FETCHABLE, byte),
-        StartRefusal::Store(byte) => refused(NOT_STORABLE, byte),
-        StartRefusal::Beside(program, Conflict::Stores(byte)) => CRefusal {
+        StartRefusal::OtherStart => refused(REFUSED_OTHER_START, 0),
+        StartRefusal::OtherDevice => refused(REFUSED_OTHER_DEVICE, 0),
+        StartRefusal::OtherLength => refused(REFUSED_OTHER_LENGTH, 0),
+        StartRefusal::Changed(byte) => refused(REFUSED_CHANGED, byte),
+        StartRefusal::Mask => refused(REFUSED_MASK, 0),
+        StartRefusal::Cylinder(cylinder) => refused(REFUSED_NO_CYLINDER, u32::from(cylinder)),
+        StartRefusal::Fetch(byte) => refused(REFUSED_NOT_FETCHABLE, byte),
+        StartRefusal::Store(byte) => refused(REFUSED_NOT_STORABLE, byte),
+        StartRefusal::Conflict(program, Conflict::Stores(byte)) => CRefusal {
             program,
-            ..refused(STORES_OVER_KEPT, byte)
+            ..refused(REFUSED_STORES_OVER_KEPT, byte)
         },
-        StartRefusal::Beside(program, Conflict::Keeps(byte)) => CRefusal {
+        StartRefusal::Conflict(program, Conflict::Keeps(byte)) => CRefusal {
             program,
-            ..refused(KEEPS_STORED_OVER, byte)
+            ..refused(REFUSED_KEEPS_STORED_OVER, byte)
         },
     }
 }
 
 /// The struct that goes with an answer.
-fn told(check: StartCheck) -> CRefusal
-    ensures { result ≡ check_told check }
+fn start_reply_for_c(reply: StartReply) -> CRefusal
+    ensures { result ≡ start_reply_for_c reply }
 {
-    match check {
-        StartCheck::Later => refused(RESERVED, 0),
-        StartCheck::LaterInFlight(program) => CRefusal {
+    match reply {
+        StartReply::Later => refused(REFUSED_RESERVED, 0),
+        StartReply::LaterInFlight(program) => CRefusal {
             program,
-            ..refused(RESERVED_IN_FLIGHT, 0)
+            ..refused(REFUSED_RESERVED_IN_FLIGHT, 0)
         },
-        StartCheck::Asked(Start::Yes) => nothing(0),
-        StartCheck::Asked(Start::No(refusal)) => told_of(refusal),
+        StartReply::Asked(Start::Yes) => no_refusal_for_c(0),
+        StartReply::Asked(Start::No(refusal)) => refusal_for_c(refusal),
     }
 }
 
 /// The number of an answer in the header.
-fn code_of(check: StartCheck) -> u32
-    ensures { result ≡ check_code check }
+fn start_reply_code(reply: StartReply) -> u32
+    ensures { result ≡ start_reply_code reply }
 {
-    match check {
-        StartCheck::Asked(Start::Yes) => YES,
+    match reply {
+        StartReply::Asked(Start::Yes) => YES,
         _ => NO,
     }
 }
 
 /// Whether the program may start under the job that C asks about, together with those in flight.
-fn checked(
+fn start_reply(
     alloc: Global,
     asked: &CJob<'_>,
     in_flight: &[Remembered<'_>],
     program: &Remembered<'_>,
-) -> Result<StartCheck, Refusal>
-    ensures answer { IfOk result (IsCheckOf asked.now program.now in_flight.now) }
+) -> Result<StartReply, Refusal>
+    ensures answer { IfOk result (IsStartReply asked.now program.now in_flight.now) }
     ensures right { OnOk result (HasNoFault asked.now) }
     ensures refusal { IfErr result (IsRefusal ⊥ asked.now) }
 {
     let ready = make_ready(alloc, asked)?;
     let job = ready.job(asked);
     if !is_of_this_version(program) {
-        return Ok(StartCheck::Later);
+        return Ok(StartReply::Later);
     }
     if let Some(number) = first_later(in_flight) {
-        return Ok(StartCheck::LaterInFlight(number));
+        return Ok(StartReply::LaterInFlight(number));
     }
     let start = may_start(alloc, &job, program, in_flight)?;
-    Ok(StartCheck::Asked(start))
+    Ok(StartReply::Asked(start))
 }
 
 /// Whether a program has no field of a later version.

@@ -1,18 +1,20 @@
 //! The text that explains the verdict on a channel program.
 
-ghost use Rattle.std.specs.Prelude.{◌≡◌, ◌≢◌, ℕ, ◌<◌, ◌≤◌, ◌⊎◌, length, IfOk, IfErr, OnOk};
+ghost use Rattle.std.specs.Prelude.{◌≡◌, ◌≢◌, ℕ, ◌<◌, ◌≤◌, ◌⊎◌, IfOk, IfErr, OnOk};
 ghost use Rattle.chan_walk.specs.Places.{HasMoreThan};
 ghost use Rattle.chan_walk.specs.declared.error.WalkError.TheVariants as walk;
 ghost use Rattle.chanv_c.specs.Answers.{HasTooMany, IsAnswerCode, IsRefusal};
 ghost use Rattle.chanv_c.specs.Faults.{HasNoFault};
-ghost use Rattle.chanv_c.specs.declared.text.Told as declared;
-ghost use Rattle.chanv_c.specs.Needs.{HasTooManyOpenly, StandFirst};
-ghost use Rattle.chanv_c.specs.Text.{IsOpenText, IsText, IsTextOn, IsToldWhole, IsTooLong};
+ghost use Rattle.chanv_c.specs.declared.text.VerdictText as declared;
+ghost use Rattle.chanv_c.specs.Needs.{HasTooManyOpenly};
+ghost use Rattle.chanv_c.specs.Text.{IsOpenText, IsText, IsTextOn, IsWrittenWhole, IsTooLong};
 ghost use Rattle.chanv_c.specs.Text.{verdict_code};
+ghost use Rattle.chanv_c.specs.declared.codes.TheConstants.{NO, NO_ROOM};
 
 use crate::codes::{NO, NO_ROOM, YES};
 use crate::job::{CJob, make_ready};
 use crate::refusal::Refusal;
+use crate::writing::write_list;
 use chan_deck::explanation_text;
 use chan_walk::{Job, OpenJob, Verdict, WalkError, survey};
 use chan_why::witness_from;
@@ -20,15 +22,15 @@ use std::alloc::Global;
 
 /// The verdict on a job, and the text that explains it.
 #[derive(Drop)]
-pub(crate) struct Told {
+pub(crate) struct VerdictText {
     verdict: Verdict,
     text: String,
 }
 
-/// Writes the text that explains the verdict on the job, as `chanv why` prints it: 0 if the program
-/// may run, 1 if it may not, 11 if the text is longer than `buffer`; then `len` is its length.
-/// Otherwise it says why there is no answer, like `chanv_verify`, and `len` is 0. `buffer` is
-/// written only for 0 and 1.
+/// Writes the text that explains the verdict on the job, as `chanv why` prints it: `YES` if the
+/// program may run, `NO` if it may not, `NO_ROOM` if the text is longer than `buffer`; then `len`
+/// is its length. Otherwise it says why there is no answer, like `chanv_verify`, and `len` is 0.
+/// `buffer` is written only for 0 and 1.
 #[unsafe(no_mangle)]
 pub extern "C" fn chanv_text(
     alloc: Global,
@@ -36,16 +38,16 @@ pub extern "C" fn chanv_text(
     buffer: &mut [u8],
     len: &mut usize,
 ) -> u32
-    ensures told { result ≤ 1 → (t : declared.Told) × IsText job.now t
-        × (result ≡ verdict_code t.verdict) × IsToldWhole t len.new buffer.old buffer.new }
-    ensures room { result ≡ 11 → (t : declared.Told) × IsText job.now t
+    ensures written { result ≤ NO → (t : declared.VerdictText) × IsText job.now t
+        × (result ≡ verdict_code t.verdict) × IsWrittenWhole t len.new buffer.old buffer.new }
+    ensures room { result ≡ NO_ROOM → (t : declared.VerdictText) × IsText job.now t
         × IsTooLong t len.new buffer.old }
-    ensures kept { 1 < result → buffer.new ≡ buffer.old }
+    ensures kept { NO < result → buffer.new ≡ buffer.old }
     ensures number { (extent : ℕ) × IsAnswerCode (HasTooMany job.now) job.now result extent }
-    ensures no_len { 1 < result → result ≢ 11 → len.new ≡ 0 }
+    ensures no_len { NO < result → result ≢ NO_ROOM → len.new ≡ 0 }
 {
     match text_on_job(alloc, job) {
-        Ok(told) => write_told(&told, buffer, len),
+        Ok(found) => write_text(&found, buffer, len),
         Err(refusal) => {
             *len = 0;
             refusal.code()
@@ -62,16 +64,16 @@ pub extern "C" fn chanv_open_text(
     buffer: &mut [u8],
     len: &mut usize,
 ) -> u32
-    ensures told { result ≤ 1 → (t : declared.Told) × IsOpenText job.now t
-        × (result ≡ verdict_code t.verdict) × IsToldWhole t len.new buffer.old buffer.new }
-    ensures room { result ≡ 11 → (t : declared.Told) × IsOpenText job.now t
+    ensures written { result ≤ NO → (t : declared.VerdictText) × IsOpenText job.now t
+        × (result ≡ verdict_code t.verdict) × IsWrittenWhole t len.new buffer.old buffer.new }
+    ensures room { result ≡ NO_ROOM → (t : declared.VerdictText) × IsOpenText job.now t
         × IsTooLong t len.new buffer.old }
-    ensures kept { 1 < result → buffer.new ≡ buffer.old }
+    ensures kept { NO < result → buffer.new ≡ buffer.old }
     ensures number { (extent : ℕ) × IsAnswerCode (HasTooManyOpenly job.now) job.now result extent }
-    ensures no_len { 1 < result → result ≢ 11 → len.new ≡ 0 }
+    ensures no_len { NO < result → result ≢ NO_ROOM → len.new ≡ 0 }
 {
     match text_on_open_job(alloc, job) {
-        Ok(told) => write_told(&told, buffer, len),
+        Ok(found) => write_text(&found, buffer, len),
         Err(refusal) => {
             *len = 0;
             refusal.code()
@@ -79,21 +81,21 @@ pub extern "C" fn chanv_open_text(
     }
 }
 
-/// Writes a text, if there is room, and answers by its verdict's number, or 11.
-fn write_told(told: &Told, buffer: &mut [u8], len: &mut usize) -> u32
-    ensures told { result ≤ 1 → (result ≡ verdict_code told.now.verdict)
-        × IsToldWhole told.now len.new buffer.old buffer.new }
-    ensures room { result ≡ 11 → IsTooLong told.now len.new buffer.old }
-    ensures kept { 1 < result → buffer.new ≡ buffer.old }
-    ensures codes { (result ≤ 1) ⊎ (result ≡ 11) }
+/// Writes a text, if there is room, and answers by its verdict's number, or `NO_ROOM`.
+fn write_text(found: &VerdictText, buffer: &mut [u8], len: &mut usize) -> u32
+    ensures written { result ≤ NO → (result ≡ verdict_code found.now.verdict)
+        × IsWrittenWhole found.now len.new buffer.old buffer.new }
+    ensures room { result ≡ NO_ROOM → IsTooLong found.now len.new buffer.old }
+    ensures kept { NO < result → buffer.new ≡ buffer.old }
+    ensures codes { (result ≤ NO) ⊎ (result ≡ NO_ROOM) }
 {
-    let text = told.text.as_bytes();
+    let text = found.text.as_bytes();
     *len = text.len();
     if buffer.len() < text.len() {
         return NO_ROOM;
     }
-    write_text(text, buffer);
-    code_of(told.verdict)
+    write_list(text, buffer);
+    code_of(found.verdict)
 }
 
 /// The number of a verdict in the header.
@@ -106,44 +108,36 @@ fn code_of(verdict: Verdict) -> u32
     }
 }
 
-/// Writes a text, and leaves the rest of the room as it is.
-fn write_text(text: &[u8], buffer: &mut [u8])
-    requires { length text.now ≤ length buffer.old }
-    ensures { StandFirst text.now buffer.old buffer.new }
-{
-    buffer[..text.len()].copy_from_slice(text);
-}
-
 /// The text on the job that C asks about.
-fn text_on_job(alloc: Global, asked: &CJob<'_>) -> Result<Told, Refusal>
+fn text_on_job(alloc: Global, asked: &CJob<'_>) -> Result<VerdictText, Refusal>
     ensures answer { IfOk result (IsText asked.now) }
     ensures right { OnOk result (HasNoFault asked.now) }
     ensures refusal { IfErr result (IsRefusal (HasTooMany asked.now) asked.now) }
 {
     let ready = make_ready(alloc, asked)?;
-    Ok(told_on(alloc, &ready.job(asked))?)
+    Ok(text_on(alloc, &ready.job(asked))?)
 }
 
 /// The text on the open job of the program that C asks about.
-fn text_on_open_job(alloc: Global, asked: &CJob<'_>) -> Result<Told, Refusal>
+fn text_on_open_job(alloc: Global, asked: &CJob<'_>) -> Result<VerdictText, Refusal>
     ensures answer { IfOk result (IsOpenText asked.now) }
     ensures right { OnOk result (HasNoFault asked.now) }
     ensures refusal { IfErr result (IsRefusal (HasTooManyOpenly asked.now) asked.now) }
 {
     let ready = make_ready(alloc, asked)?;
     let open = OpenJob::of(alloc, &ready.job(asked))?;
-    Ok(told_on(alloc, &open.job())?)
+    Ok(text_on(alloc, &open.job())?)
 }
 
 /// The verdict on a job, with the text that explains it.
-fn told_on(alloc: Global, job: &Job) -> Result<Told, WalkError>
+fn text_on(alloc: Global, job: &Job) -> Result<VerdictText, WalkError>
     ensures text { IfOk result (IsTextOn job.now) }
     ensures many { IfErr result (λ e. e ≡ walk.TooManyPlaces → HasMoreThan job.now job.now.limit) }
 {
     let survey = survey(alloc, job)?;
     let witness = witness_from(alloc, &survey)?;
     let text = explanation_text(alloc, job, &survey, &witness, &[])?;
-    Ok(Told {
+    Ok(VerdictText {
         verdict: survey.verdict(),
         text,
     })

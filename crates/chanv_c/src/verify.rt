@@ -4,6 +4,7 @@ ghost use Rattle.std.specs.Prelude.{◌≡◌, ◌≢◌, ◌<◌, IfErr, IfOk, 
 ghost use Rattle.chan_walk.specs.declared.verdict.Verdict.TheVariants.{Yes};
 ghost use Rattle.chanv_c.specs.Answers.{HasTooMany, IsDenied, IsJudged, IsAnswerCode, IsRefusal};
 ghost use Rattle.chanv_c.specs.Faults.{HasNoFault};
+ghost use Rattle.chanv_c.specs.declared.codes.TheConstants.{YES, NO, STORAGE_TOO_LARGE, NO_ROOM};
 
 use crate::codes::{NO, YES};
 use crate::job::{CJob, make_ready};
@@ -20,17 +21,17 @@ pub struct CVerdict {
     pub reason: u32,
 }
 
-/// Whether the program may run: 0 for yes; 1 for no, with the address of the first offending CCW
+/// Whether the program may run: `YES`; `NO`, with the address of the first offending CCW
 /// and the number of its reason; otherwise why there is no answer, with the index of the first
 /// wrong extent if there is one. All else is written as 0.
 #[unsafe(no_mangle)]
 pub extern "C" fn chanv_verify(alloc: Global, job: &CJob<'_>, out: &mut CVerdict) -> u32
-    ensures yes { result ≡ 0 → IsJudged job.now Yes }
-    ensures no { result ≡ 1 → IsDenied job.now out.new.address out.new.reason }
+    ensures yes { result ≡ YES → IsJudged job.now Yes }
+    ensures no { result ≡ NO → IsDenied job.now out.new.address out.new.reason }
     ensures number { IsAnswerCode (HasTooMany job.now) job.now result out.new.extent }
-    ensures room { result ≢ 11 }
-    ensures no_place { result ≢ 1 → (out.new.address ≡ 0) × (out.new.reason ≡ 0) }
-    ensures no_extent { result < 4 → out.new.extent ≡ 0 }
+    ensures room { result ≢ NO_ROOM }
+    ensures no_place { result ≢ NO → (out.new.address ≡ 0) × (out.new.reason ≡ 0) }
+    ensures no_extent { result < STORAGE_TOO_LARGE → out.new.extent ≡ 0 }
 {
     match verdict_on(alloc, job) {
         Ok(Verdict::Yes) => {

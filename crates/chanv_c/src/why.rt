@@ -5,16 +5,17 @@ ghost use Rattle.chan_walk.specs.declared.verdict.Verdict.TheVariants.{Yes};
 ghost use Rattle.chanv_c.specs.Answers.{HasTooMany, IsJudged, IsAnswerCode, IsRefusal};
 ghost use Rattle.chanv_c.specs.Faults.{HasNoFault};
 ghost use Rattle.chanv_c.specs.Why as specs;
-ghost use Rattle.chanv_c.specs.Why.{IsExplanationFor, IsTold, IsWrittenTo, LacksRows};
-ghost use Rattle.chanv_c.specs.Why.{told_nothing, verdict_told};
-ghost use Rattle.chanv_c.specs.declared.why.Found as declared;
+ghost use Rattle.chanv_c.specs.Why.{IsExplanationFor, IsWrittenExplanation, IsWrittenTo};
+ghost use Rattle.chanv_c.specs.Why.{HasLittleRoomFor, no_explanation_for_c, verdict_for_c};
+ghost use Rattle.chanv_c.specs.declared.why.WitnessedVerdict as declared;
+ghost use Rattle.chanv_c.specs.declared.codes.TheConstants.{YES, NO, STORAGE_TOO_LARGE, NO_ROOM};
 
 use crate::codes::{NO, NO_ROOM, YES};
-use crate::evidence::{CEvidence, NO_VALUES, cause_told};
+use crate::evidence::{CEvidence, NO_VALUES, cause_for_c};
 use crate::job::{CJob, make_ready};
 use crate::refusal::Refusal;
-use crate::rows::{CPlace, write_path};
 use crate::verify::CVerdict;
+use crate::writing::{CPlace, write_path};
 use chan_walk::{Place, Verdict, survey};
 use chan_why::{Witness, witness_from};
 use std::alloc::Global;
@@ -32,16 +33,16 @@ pub struct CExplanation {
 
 /// The verdict on a job, and what shows it.
 #[derive(Drop)]
-pub(crate) struct Found {
+pub(crate) struct WitnessedVerdict {
     verdict: Verdict,
     witness: Witness,
 }
 
-/// Why the program may not run: 0 if it may; 1 if it may not, with the verdict, the values of the
-/// cause, the path to a place that offends and, if that place would change bytes, the path to the
-/// CCW or argument there; 11 if a path has more places than rows, with all that 1 gives except the
-/// rows. Room 0 skips a path. Otherwise it says why there is no answer, like `chanv_verify`. All
-/// else is written as 0. The rows are written only for 1.
+/// Why the program may not run: `YES` if it may; `NO` if it may not, with the verdict, the values
+/// of the cause, the path to a place that offends and, if that place would change bytes, the path
+/// to the CCW or argument there; `NO_ROOM` if a path has more places than there is room for, with
+/// all that `NO` gives except the paths. Room 0 skips a path. Otherwise it says why there is no
+/// answer, like `chanv_verify`. All else is written as 0. Paths are written only for `NO`.
 #[unsafe(no_mangle)]
 pub extern "C" fn chanv_why(
     alloc: Global,
@@ -50,37 +51,40 @@ pub extern "C" fn chanv_why(
     second_path: &mut [CPlace],
     out: &mut CExplanation,
 ) -> u32
-    ensures yes { result ≡ 0 → IsJudged job.now Yes }
-    ensures no { result ≡ 1 → (x : declared.Found) × IsTold job.now x out.new
+    ensures yes { result ≡ YES → IsJudged job.now Yes }
+    ensures no { result ≡ NO → (x : declared.WitnessedVerdict)
+        × IsWrittenExplanation job.now x out.new
         × IsWrittenTo x.witness.path.items path.old path.new
         × IsWrittenTo x.witness.second_path.items second_path.old second_path.new }
-    ensures room { result ≡ 11 → (x : declared.Found) × IsTold job.now x out.new
-        × (LacksRows x.witness.path.items path.old
-        ⊎ LacksRows x.witness.second_path.items second_path.old) }
-    ensures kept { result ≢ 1 → (path.new ≡ path.old) × (second_path.new ≡ second_path.old) }
+    ensures room { result ≡ NO_ROOM → (x : declared.WitnessedVerdict)
+        × IsWrittenExplanation job.now x out.new
+        × (HasLittleRoomFor x.witness.path.items path.old
+        ⊎ HasLittleRoomFor x.witness.second_path.items second_path.old) }
+    ensures kept { result ≢ NO → (path.new ≡ path.old) × (second_path.new ≡ second_path.old) }
     ensures number { IsAnswerCode (HasTooMany job.now) job.now result out.new.verdict.extent }
-    ensures nothing { result ≢ 1 → result ≢ 11 → out.new ≡ told_nothing out.new.verdict.extent }
-    ensures no_extent { result < 4 → out.new.verdict.extent ≡ 0 }
+    ensures nothing { result ≢ NO → result ≢ NO_ROOM
+        → out.new ≡ no_explanation_for_c out.new.verdict.extent }
+    ensures no_extent { result < STORAGE_TOO_LARGE → out.new.verdict.extent ≡ 0 }
 {
     let found = match explained(alloc, job) {
         Ok(found) => found,
         Err(refusal) => {
-            *out = nothing(refusal.extent());
+            *out = no_explanation_for_c(refusal.extent());
             return refusal.code();
         }
     };
     match found.verdict {
         Verdict::Yes => {
-            *out = nothing(0);
+            *out = no_explanation_for_c(0);
             return YES;
         }
-        Verdict::No { .. } => *out = told(&found),
+        Verdict::No { .. } => *out = explanation_for_c(&found),
     }
     let (first, second) = (
         found.witness.path.as_slice(),
         found.witness.second_path.as_slice(),
     );
-    if lacks_rows(first, path) || lacks_rows(second, second_path) {
+    if has_little_room(first, path) || has_little_room(second, second_path) {
         return NO_ROOM;
     }
     write_wanted(first, path);
@@ -88,26 +92,26 @@ pub extern "C" fn chanv_why(
     NO
 }
 
-/// Whether a path with some room has more places than rows.
-fn lacks_rows(path: &[Place], rows: &[CPlace]) -> bool
-    ensures { IsTrue result ↔ LacksRows path.now rows.now }
+/// Whether a path with some room has more places than that.
+fn has_little_room(path: &[Place], room: &[CPlace]) -> bool
+    ensures { IsTrue result ↔ HasLittleRoomFor path.now room.now }
 {
-    !rows.is_empty() && rows.len() < path.len()
+    !room.is_empty() && room.len() < path.len()
 }
 
-/// Writes the rows of a path, if there is some room for it.
-fn write_wanted(path: &[Place], rows: &mut [CPlace])
-    requires { LacksRows path.now rows.old → ⊥ }
-    ensures { IsWrittenTo path.now rows.old rows.new }
+/// Writes the places of a path, if there is some room for it.
+fn write_wanted(path: &[Place], room: &mut [CPlace])
+    requires { HasLittleRoomFor path.now room.old → ⊥ }
+    ensures { IsWrittenTo path.now room.old room.new }
 {
-    if !rows.is_empty() {
-        write_path(path, rows);
+    if !room.is_empty() {
+        write_path(path, room);
     }
 }
 
 /// The explanation of an answer without one: all zeros except the index of a wrong extent.
-fn nothing(extent: usize) -> CExplanation
-    ensures { result ≡ told_nothing extent }
+fn no_explanation_for_c(extent: usize) -> CExplanation
+    ensures { result ≡ no_explanation_for_c extent }
 {
     CExplanation {
         verdict: CVerdict {
@@ -122,22 +126,22 @@ fn nothing(extent: usize) -> CExplanation
     }
 }
 
-/// The explanation without the rows.
-fn told(found: &Found) -> CExplanation
-    ensures { result ≡ specs.told found.now }
+/// The explanation without the paths.
+fn explanation_for_c(found: &WitnessedVerdict) -> CExplanation
+    ensures { result ≡ specs.explanation_for_c found.now }
 {
     CExplanation {
         verdict: verdict_of(found.verdict),
         path_count: found.witness.path.len(),
         second_path_count: found.witness.second_path.len(),
-        evidence: cause_told(found.witness.evidence),
+        evidence: cause_for_c(found.witness.evidence),
         reserved: [0; 4],
     }
 }
 
 /// The verdict as a struct of C.
 fn verdict_of(verdict: Verdict) -> CVerdict
-    ensures { result ≡ verdict_told verdict }
+    ensures { result ≡ verdict_for_c verdict }
 {
     match verdict {
         Verdict::Yes => CVerdict {
@@ -154,7 +158,7 @@ fn verdict_of(verdict: Verdict) -> CVerdict
 }
 
 /// The verdict on the job that C asks about, and what shows it.
-fn explained(alloc: Global, asked: &CJob<'_>) -> Result<Found, Refusal>
+fn explained(alloc: Global, asked: &CJob<'_>) -> Result<WitnessedVerdict, Refusal>
     ensures answer { IfOk result (IsExplanationFor asked.now) }
     ensures right { OnOk result (HasNoFault asked.now) }
     ensures refusal { IfErr result (IsRefusal (HasTooMany asked.now) asked.now) }
@@ -162,7 +166,7 @@ fn explained(alloc: Global, asked: &CJob<'_>) -> Result<Found, Refusal>
     let ready = make_ready(alloc, asked)?;
     let survey = survey(alloc, &ready.job(asked))?;
     let witness = witness_from(alloc, &survey)?;
-    Ok(Found {
+    Ok(WitnessedVerdict {
         verdict: survey.verdict(),
         witness,
     })

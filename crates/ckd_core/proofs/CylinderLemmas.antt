@@ -1,7 +1,6 @@
 -- Which cylinders lie in some extent, by where the extents begin and how far they reach.
 use Rattle.std.proofs.Common.{◌≡◌, ℕ, ◌+◌, ◌≤◌, ◌<◌, Bool, false, ◌&&◌, ◌||◌, nat_eq, nat_lt}
-use Rattle.std.proofs.Common.{nat_le, List, [], ◌∷◌, length, get_or, refl, ap}
-use Rattle.std.proofs.Common.{arith}
+use Rattle.std.proofs.Common.{nat_le, List, [], ◌∷◌, length, get_or, refl, ap, arith}
 use Rattle.std.specs.Bool.{Decides}
 use Rattle.std.specs.Cmp.Lexicographic.{pointwise_decides}
 use Rattle.std.specs.List.{list_any, AllByRecursion}
@@ -9,6 +8,7 @@ use Rattle.std.specs.Ordering.{nat_cmp, ord_max}
 use Rattle.std.proofs.lemmas.Bool.Decides.{nat_tests, Decides-and, Decides-eqb}
 use Rattle.std.proofs.lemmas.List.Elements.{All-from_recursion}
 use Rattle.ckd_core.specs.Extents.{has_cylinder, IsExtent, same_extents}
+use Rattle.ckd_core.specs.declared.device.TheConstants.{CYLINDERS, LAST_CYLINDER}
 
 -- some extent begins at the cylinder and reaches x
 abbrev pub reached_from : List (ℕ × ℕ) → ℕ → ℕ → Bool
@@ -22,11 +22,11 @@ reached_below extents cylinder x = list_any (λ e. nat_lt e.0 cylinder && nat_le
 pub extent_at : (extents : List (ℕ × ℕ)) (i : ℕ) → AllByRecursion IsExtent extents → i < length extents → IsExtent (get_or extents i (0, 0))
 extent_at extents i all lt = All-from_recursion IsExtent extents all i (0, 0) lt
 
-past_one : (first last cylinder : ℕ) → last ≤ 202 → 203 ≤ cylinder → (nat_le first cylinder && nat_le cylinder last) ≡ false
+past_one : (first last cylinder : ℕ) → last ≤ LAST_CYLINDER → CYLINDERS ≤ cylinder → (nat_le first cylinder && nat_le cylinder last) ≡ false
 past_one first last cylinder le past = grind (arith, nat_tests)
 
 -- no extent reaches past the device
-pub has_cylinder-past : (extents : List (ℕ × ℕ)) (cylinder : ℕ) → AllByRecursion IsExtent extents → 203 ≤ cylinder → has_cylinder extents cylinder ≡ false
+pub has_cylinder-past : (extents : List (ℕ × ℕ)) (cylinder : ℕ) → AllByRecursion IsExtent extents → CYLINDERS ≤ cylinder → has_cylinder extents cylinder ≡ false
 unfolding has_cylinder
 has_cylinder-past [] cylinder all past = refl
 has_cylinder-past (e ∷ es) cylinder all past =

@@ -1,9 +1,10 @@
 -- Extents of whole cylinders, as pairs of first and last.
-use Rattle.std.specs.Prelude.{ℕ, ◌≤◌, ◌<◌, Bool, ◌&&◌, nat_le, nat_eq, List, length}
+use Rattle.std.specs.Prelude.{ℕ, ◌≤◌, ◌<◌, Bool, ◌&&◌, nat_le, nat_eq, List, [], ◌∷◌, length}
 use Rattle.std.specs.Cmp.{IsEquivalence, on_equiv, and_equiv, nat_eq_equiv}
 use Rattle.std.specs.Cmp.Lexicographic.{pointwise, lists_equiv}
 use Rattle.std.specs.Ordering.{on, eq_of_both}
 use Rattle.std.specs.List.{list_any, AllByRecursion}
+use Rattle.ckd_core.specs.declared.device.TheConstants.{LAST_CYLINDER}
 
 -- the cylinder lies in some extent
 unfoldable pub has_cylinder : List (ℕ × ℕ) → ℕ → Bool
@@ -11,7 +12,11 @@ has_cylinder extents cylinder = list_any (λ e. nat_le e.0 cylinder && nat_le cy
 
 -- first and last in order, the last on the device
 abbrev pub IsExtent : ℕ × ℕ → Type 0
-IsExtent e = (e.0 ≤ e.1) × (e.1 ≤ 202)
+IsExtent e = (e.0 ≤ e.1) × (e.1 ≤ LAST_CYLINDER)
+
+-- one extent of all cylinders
+abbrev pub all_cylinders : List (ℕ × ℕ)
+all_cylinders = (0, LAST_CYLINDER) ∷ []
 
 -- one extent or more, each of them in order and on the device
 abbrev pub AreExtents : List (ℕ × ℕ) → Type 0

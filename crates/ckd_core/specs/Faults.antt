@@ -5,6 +5,7 @@ use Rattle.ckd_core.specs.Extents.{IsExtent, AreExtents}
 use Rattle.ckd_core.specs.declared.extents.ExtentError.{ExtentError}
 use Rattle.ckd_core.specs.declared.extents.ExtentError.TheVariants.{Empty, Backwards, PastDevice}
 use Rattle.ckd_core.specs.declared.extents.ExtentError.TheVariants.{Memory}
+use Rattle.ckd_core.specs.declared.device.TheConstants.{LAST_CYLINDER}
 
 -- the first cylinder is above the last
 abbrev pub IsBackwards : ℕ × ℕ → Type 0
@@ -12,7 +13,7 @@ IsBackwards e = e.1 < e.0
 
 -- the cylinders are in order, and the last is past the device
 abbrev pub IsPastDevice : ℕ × ℕ → Type 0
-IsPastDevice e = (e.0 ≤ e.1) × (202 < e.1)
+IsPastDevice e = (e.0 ≤ e.1) × (LAST_CYLINDER < e.1)
 
 -- the pair i is wrong in this way, and those before it are extents
 pub record IsFirstWrong (Wrong : ℕ × ℕ → Type 0) (pairs : List (ℕ × ℕ)) (i : ℕ) : Type 0 where

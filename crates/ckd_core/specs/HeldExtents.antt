@@ -1,11 +1,12 @@
 -- A table that answers for a cylinder at once.
 use Rattle.std.specs.Prelude.{◌≡◌, ℕ, ◌<◌, Bool, false, List, slice_index_or}
 use Rattle.ckd_core.specs.Extents.{has_cylinder, AreExtents}
+use Rattle.ckd_core.specs.declared.device.TheConstants.{CYLINDERS}
 
 -- the table says of each cylinder of a device whether it lies in some extent
 abbrev pub IsHeldTable : List (ℕ × ℕ) → List Bool → Type 0
 IsHeldTable extents held =
-    (cylinder : ℕ) → cylinder < 203 → slice_index_or held cylinder false
+    (cylinder : ℕ) → cylinder < CYLINDERS → slice_index_or held cylinder false
     ≡ has_cylinder extents cylinder
 
 -- the pairs are extents, and the table is theirs

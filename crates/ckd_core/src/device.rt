@@ -3,12 +3,18 @@
 ghost use Rattle.std.specs.Prelude.{◌≡◌};
 ghost use Rattle.ckd_core.specs.Device.{cylinders_of, heads_of};
 
+/// How many cylinders either device has.
+pub const CYLINDERS: usize = 203;
+
+/// The last cylinder of either device.
+pub const LAST_CYLINDER: u16 = 202;
+
 /// A disk of count-key-data records.
 #[derive(Clone, Copy, PartialEq, Eq, Debug)]
 pub enum Device {
-    /// IBM 2311: cylinders 0 to 202, heads 0 to 9.
+    /// IBM 2311: heads 0 to 9.
     D2311,
-    /// IBM 2314: cylinders 0 to 202, heads 0 to 19.
+    /// IBM 2314: heads 0 to 19.
     D2314,
 }
 
@@ -27,8 +33,6 @@ impl Device {
     pub fn cylinders(self) -> u16
         ensures { result ≡ cylinders_of self }
     {
-        match self {
-            Device::D2311 | Device::D2314 => 203,
-        }
+        CYLINDERS as u16
     }
 }

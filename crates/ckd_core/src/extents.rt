@@ -6,16 +6,12 @@ ghost use Rattle.std.specs.List.{AllByRecursion, list_any};
 ghost use Rattle.ckd_core.specs.Extents.{AreExtents, IsExtent, has_cylinder};
 ghost use Rattle.ckd_core.specs.Faults.{IsFault};
 ghost use Rattle.ckd_core.specs.HeldExtents.{IsHeldTable};
+ghost use Rattle.ckd_core.specs.declared.device.TheConstants.{CYLINDERS};
 
+use crate::device::{CYLINDERS, LAST_CYLINDER};
 use std::alloc::Global;
 use std::marker::Model;
 use thiserror::Error;
-
-/// How many cylinders either device has.
-const CYLINDERS: usize = 203;
-
-/// The last cylinder of either device.
-pub const LAST_CYLINDER: u16 = 202;
 
 /// Why pairs of cylinders aren't extents.
 #[derive(Clone, Copy, PartialEq, Eq, Debug, Error)]
@@ -28,7 +24,7 @@ pub enum ExtentError {
     #[error("extent {0}: first cylinder above last")]
     Backwards(usize),
     /// The pair of this index, counted from 0, is the first wrong pair: it is in order, and its
-    /// last cylinder is above 202.
+    /// last cylinder is above that of the device.
     #[error("extent {0}: past the last cylinder of the device")]
     PastDevice(usize),
     /// Each pair is right, but an allocation failed.
@@ -41,7 +37,7 @@ pub enum ExtentError {
 pub struct Extents {
     pairs: Vec<(u16, u16)>,
     /// Which cylinders lie in some extent.
-    held: [bool; 203],
+    held: [bool; CYLINDERS],
 }
 
 impl Model for Extents {
@@ -136,12 +132,12 @@ fn judge(pairs: &[(u16, u16)]) -> Result<(), ExtentError>
 
 /// For each cylinder, one more than the furthest last cylinder of the extents that begin there, or
 /// 0 if no extent begins there.
-fn ends(pairs: &[(u16, u16)]) -> [u16; 203]
+fn ends(pairs: &[(u16, u16)]) -> [u16; CYLINDERS]
     requires { AllByRecursion IsExtent pairs.now }
-    ensures { (c x : ℕ) → c < 203 → nat_lt x (slice_index result c)
+    ensures { (c x : ℕ) → c < CYLINDERS → nat_lt x (slice_index result c)
         ≡ list_any (λ e. e.0 == c && nat_le x e.1) pairs.now }
 {
-    let mut ends = [0; 203];
+    let mut ends = [0; CYLINDERS];
     for pair in pairs {
         let (first, last) = *pair;
         let first = usize::from(first);
@@ -151,12 +147,12 @@ fn ends(pairs: &[(u16, u16)]) -> [u16; 203]
 }
 
 /// Which cylinders lie in some extent.
-fn held_cylinders(pairs: &[(u16, u16)]) -> [bool; 203]
+fn held_cylinders(pairs: &[(u16, u16)]) -> [bool; CYLINDERS]
     requires { AllByRecursion IsExtent pairs.now }
     ensures { IsHeldTable pairs.now result }
 {
     let ends = ends(pairs);
-    let mut held = [false; 203];
+    let mut held = [false; CYLINDERS];
     let mut end = 0;
     for cylinder in 0..CYLINDERS {
         end = end.max(usize::from(ends[cylinder]));

@@ -30,8 +30,8 @@ mod mask;
 mod track;
 
 pub use crate::command::{Command, Kind, MaskClass, lookup};
-pub use crate::device::Device;
-pub use crate::extents::{ExtentError, Extents, LAST_CYLINDER};
+pub use crate::device::{CYLINDERS, Device, LAST_CYLINDER};
+pub use crate::extents::{ExtentError, Extents};
 pub use crate::further::further_name;
 pub use crate::levels::Levels;
 pub use crate::mask::FileMask;

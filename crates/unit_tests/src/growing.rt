@@ -67,7 +67,7 @@ fn calls(alloc: Global, call: Call) -> Result<bool, AllocError> {
 
 fn calls_over(alloc: Global, deck: &Deck, call: Call) -> Result<bool, AllocError> {
     let job = deck.job();
-    // The borrow checker asks for the type of what a job borrows.
+    // For the checker alone: it asks for the type of what is borrowed.
     let _storage = job.storage;
     match call {
         Call::ReadDeck => Ok(true),

@@ -12,7 +12,7 @@ use Rattle.std.proofs.lemmas.List.FromFn.{get_or-range_with_len, length-range_wi
 use Rattle.std.proofs.Math.ListN.{get_or-append}
 use Rattle.chan_walk.specs.declared.argument.GivenBytes.{GivenBytes}
 use Rattle.chan_walk.specs.Argument.{AreLinked, data_addresses, joined, total}
-use Rattle.chan_walk.specs.Read.{AreZeroFrom, IsFront, IsFrontOf, AreOfArgument, IsShort, onward}
+use Rattle.chan_walk.specs.Operand.{AreZeroFrom, IsFront, IsFrontOf, AreOfArgument, IsShort, onward}
 use Rattle.chan_walk.proofs.Theory.Chains.{chain_begins_with_part, chain_cons, chain_tail}
 use Rattle.chan_walk.proofs.Theory.Chains.{onward_leads, onward_only, part_counts}
 use Rattle.chan_walk.proofs.Theory.CheckCases.{found_is_part, is_part-none}

@@ -1,6 +1,6 @@
 -- Two jobs of one program that grant the same: everything that the verdict asks is the same.
-use Rattle.chan_walk.proofs.Names.{ap, Bool, byte, ccw_of, check, cond, covered, extents_of, false}
-use Rattle.chan_walk.proofs.Names.{fetch_of, Fields, first_reason, has_cylinder, HasArgument}
+use Rattle.chan_walk.proofs.Names.{ap, Bool, byte, ccw_of, program_check, cond, covered, extents_of}
+use Rattle.chan_walk.proofs.Names.{false, fetch_of, Fields, first_reason, has_cylinder, HasArgument}
 use Rattle.chan_walk.proofs.Names.{HasFault, if◌then◌else◌, inhibits, is_at_least, is_refused}
 use Rattle.chan_walk.proofs.Names.{is_transfer, IsReachable, IsVerdict, Job, length, List, None}
 use Rattle.chan_walk.proofs.Names.{Option, option_or, Place, Reason, refl, rules, Some, storage_of}
@@ -41,7 +41,7 @@ module _ (j k : Job) (one : AreOfOneProgram j k) (more : GrantsMore j k) (less :
       ∙ ap (λ s. is_at_least (byte s c.address) k.mask) one.storage in
       rw (permit, stored, fetched, refuse, home, strict) refl
 
-  rest_alike : (p : Place) (x : Option (List ℕ)) → check (storage_of j) p ≡ None
+  rest_alike : (p : Place) (x : Option (List ℕ)) → program_check (storage_of j) p ≡ None
       → (if is_transfer (ccw_of j p) then None else first_reason (table_of_own j p (ccw_of j p) x))
       ≡ (if is_transfer (ccw_of k p) then None else first_reason (table_of_own k p (ccw_of k p) x))
   rest_alike p x e = go (is_transfer (ccw_of j p)) refl ∙ ap (λ c. if is_transfer c then None else first_reason (table_of_own k p c x)) (ccw_over j k one p)
@@ -52,17 +52,18 @@ module _ (j k : Job) (one : AreOfOneProgram j k) (more : GrantsMore j k) (less :
       go false t = ap first_reason (table_alike p (ccw_of j p) x (data_in_storage (storage_of j) p (ccw_of j p) e refl t))
 
   fault_alike : (p : Place) (x : Option (List ℕ)) → fault_with j p x ≡ fault_with k p x
-  fault_alike p x = go (check (storage_of j) p) refl
+  fault_alike p x = go (program_check (storage_of j) p) refl
     where
-      checks : check (storage_of j) p ≡ check (storage_of k) p
-      checks = ap (λ s. check s p) one.storage
+      checks : program_check (storage_of j) p ≡ program_check (storage_of k) p
+      checks = ap (λ s. program_check s p) one.storage
 
       rest : Job → Option Reason
       rest i = if is_transfer (ccw_of i p) then None else first_reason (table_of_own i p (ccw_of i p) x)
 
-      go : (o : Option Reason) → check (storage_of j) p ≡ o → option_or (check (storage_of j) p) (rest j) ≡ option_or (check (storage_of k) p) (rest k)
+      go : (o : Option Reason) → program_check (storage_of j) p ≡ o → option_or (program_check (storage_of j) p) (rest j)
+          ≡ option_or (program_check (storage_of k) p) (rest k)
       go (Some q) e = ap (λ o. option_or o (rest j)) e ∙ sym (ap (λ o. option_or o (rest k)) (sym checks ∙ e))
-      go None e = ap (λ o. option_or o (rest j)) checks ∙ ap (λ r. option_or (check (storage_of k) p) r) (rest_alike p x e)
+      go None e = ap (λ o. option_or o (rest j)) checks ∙ ap (λ r. option_or (program_check (storage_of k) p) r) (rest_alike p x e)
 
   pub fault_over : (p : Place) (r : Option Reason) → HasFault j p r ↔ HasFault k p r
   fault_over p r = (

@@ -24,6 +24,7 @@ use Rattle.chan_walk.proofs.Theory.Chains.{chain_unique}
 use Rattle.chan_walk.proofs.Theory.Lists.{has_left, has_right, has_cases}
 use Rattle.chan_areas.proofs.Merging.{lies_in-append, lies_in-cases, lies_in-first, lies_in-rest}
 use Rattle.std.proofs.lemmas.List.{get_or_default}
+use Rattle.ccw_core.specs.declared.ccw.TheConstants.{STORAGE_LIMIT}
 
 -- the areas have exactly the bytes that are P's at some place of the list
 abbrev pub HoldBytes : (Place → ℕ → Type 0) → List Place → List Area → Type 0
@@ -85,7 +86,7 @@ pub lies_in-bytes : (xs : List ℕ) (b : ℕ) → (lies_in (map byte_area xs) b 
 lies_in-bytes [] b = ((λ h. absurd (both_ways (lies_in [] b) (lies_in-nil b) h)), λ h. absurd h)
 lies_in-bytes (x ∷ xs) b = search (rules, lies_in-cases, lies_in-first, lies_in-rest, lies_in-bytes xs b)
 
-pub low_bytes : (xs : List ℕ) → ((i : ℕ) → get_or xs i 0 < 2 ^ 24) → All (EndsBelow (2 ^ 32)) (map byte_area xs)
+pub low_bytes : (xs : List ℕ) → ((i : ℕ) → get_or xs i 0 < STORAGE_LIMIT) → All (EndsBelow (2 ^ 32)) (map byte_area xs)
 low_bytes xs h = All-map (EndsBelow (2 ^ 32)) byte_area xs (λ i d l. let k = h i in let e = get_or_default xs i d 0 l in omega arith)
 
 -- the argument at a place that begins a seek and has no own fault
@@ -99,6 +100,6 @@ bytes_of_argument j p l x s f k e b = (
 pub stands_from : (s : List ℕ) (a : ℕ) (o : Option Fields) → o ≡ ccw_at s a → is_some o ≡ true → Stands s a
 stands_from s a o e h = search rules
 
-pub stands_low : (s : List ℕ) (a : ℕ) → length s ≤ 2 ^ 24 → Stands s a → EndsBelow (2 ^ 32) (record { start = a; len = 8 })
+pub stands_low : (s : List ℕ) (a : ℕ) → length s ≤ STORAGE_LIMIT → Stands s a → EndsBelow (2 ^ 32) (record { start = a; len = 8 })
 unfolding is_inside
 stands_low s a l h = let k = leb-true (a + 8) (length s) h.1 in omega arith

@@ -1,5 +1,5 @@
 -- The marked places, written out in order.
-use Rattle.chan_walk.proofs.Names.{Agrees, AllByRecursion, ap, append_assoc, AreDistinct, arith}
+use Rattle.chan_walk.proofs.Names.{MarksAgree, AllByRecursion, ap, append_assoc, AreDistinct, arith}
 use Rattle.chan_walk.proofs.Names.{bit_at, Bool, BTreeMap, cases_lt, false, Has, inl, inr, IsWalked}
 use Rattle.chan_walk.proofs.Names.{Job, length, length-map, List, map, marks_of, nat_cmp, None}
 use Rattle.chan_walk.proofs.Names.{Option, Place, refl, rules, Some, subst, suc, sym, true, way_of}
@@ -19,7 +19,7 @@ use Rattle.std.proofs.lemmas.Map.Keys.{IsStrictlyIncreasing-from_sorted}
 use Rattle.std.proofs.lemmas.Nat.Bits.{bit_at-zero}
 use Rattle.chan_walk.specs.Places.{AreReachable, place_number}
 use Rattle.chan_walk.specs.Marks.{put, ways, place_at, places_at, places_of, HasMark, HasWay}
-use Rattle.chan_walk.specs.Marks.{ListsMarks, or_none}
+use Rattle.chan_walk.specs.Marks.{ListsMarks, marks_or_none}
 use Rattle.chan_walk.proofs.Theory.Lists.{contains_has, has_cases, has_contains, has_left}
 use Rattle.chan_walk.proofs.Theory.Lists.{has_right}
 use Rattle.chan_walk.proofs.Algorithms.Marks.{way_small, way_of-place_at, place_at-way_of}
@@ -152,12 +152,12 @@ one_at a m p w =
 -- ---- the places of all entries
 
 -- an entry tells of the place
-record IsTold (es : List (ℕ × ℕ)) (p : Place) : Type 0 where
+record IsWrittenExplanation (es : List (ℕ × ℕ)) (p : Place) : Type 0 where
   marks : ℕ
   entry : Has es (p.address, marks)
   set : bit_at marks (way_of p) ≡ 1
 
-told : (es : List (ℕ × ℕ)) (p : Place) → Has (places_of es) p → IsTold es p
+told : (es : List (ℕ × ℕ)) (p : Place) → Has (places_of es) p → IsWrittenExplanation es p
 told [] p h = absurd h
 told (e ∷ es) p h = search (rules, has_cases, at_one, told es p)
 
@@ -191,22 +191,22 @@ mark_is_place m p o = (to (tree.get nat_cmp m p.address) refl, from)
     no_bit : bit_at 0 (way_of p) ≡ 1 → ⊥
     no_bit h = let z = bit_at-zero (way_of p) in absurd (omega arith)
 
-    to : (g : Option ℕ) → tree.get nat_cmp m p.address ≡ g → bit_at (or_none (tree.get nat_cmp m p.address)) (way_of p) ≡ 1 → Has (places_of m.entries) p
-    to None e h = absurd (no_bit (subst (λ z. bit_at (or_none z) (way_of p) ≡ 1) e h))
+    to : (g : Option ℕ) → tree.get nat_cmp m p.address ≡ g → bit_at (marks_or_none (tree.get nat_cmp m p.address)) (way_of p) ≡ 1 → Has (places_of m.entries) p
+    to None e h = absurd (no_bit (subst (λ z. bit_at (marks_or_none z) (way_of p) ≡ 1) e h))
     to (Some v) e h =
         tells m.entries p v (contains_has m.entries (p.address, v) ((btree_map_get_iff nat_cmp_total exact_unsigned m o p.address v).0 e))
-        (subst (λ z. bit_at (or_none z) (way_of p) ≡ 1) e h)
+        (subst (λ z. bit_at (marks_or_none z) (way_of p) ≡ 1) e h)
 
     from : Has (places_of m.entries) p → HasMark m p
     from h =
         let r = told m.entries p h in
-        subst (λ z. bit_at (or_none z) (way_of p) ≡ 1)
+        subst (λ z. bit_at (marks_or_none z) (way_of p) ≡ 1)
         (sym ((btree_map_get_iff nat_cmp_total exact_unsigned m o p.address r.marks).1 (has_contains m.entries (p.address, r.marks) r.entry))) r.set
 
 -- ---- what is written out
 
 pub listed_reachable : (j : Job) (n : ℕ) (m : BTreeMap ℕ ℕ) (ps qs : List Place) (i : ℕ)
-    → ListsMarks m qs → Agrees m ps → IsWalked j n ps i → length ps ≤ i → AreReachable j qs
+    → ListsMarks m qs → MarksAgree m ps → IsWalked j n ps i → length ps ≤ i → AreReachable j qs
 listed_reachable j n m ps qs i l a w h = subst (AreReachable j) (sym l.listed) (record {
   ordered = IsStrictlyIncreasing-from_sorted (map place_number (places_of m.entries)) (sorted_places m.entries l.ordered);
   each = λ p r. (mark_is_place m p l.ordered).0 ((a p).1 (all_found j n ps i w h p r));
@@ -235,10 +235,11 @@ bit_is_way m qs a w l h = (to, from)
 
 -- ---- how many
 
-pub distinct : {X : Type 0} (number : X → ℕ) → ((x y : X) → number x ≡ number y → x ≡ y) → (xs : List X) → AreDistinct xs → IsDistinct eqb (map number xs)
+pub distinct_numbers : {X : Type 0} (number : X → ℕ) → ((x y : X) → number x ≡ number y → x ≡ y) → (xs : List X) → AreDistinct xs
+    → IsDistinct eqb (map number xs)
 unfolding IsDistinct
-distinct number same [] a = tt
-distinct {X} number same (x ∷ xs) a = (all xs a.0, distinct number same xs a.1)
+distinct_numbers number same [] a = tt
+distinct_numbers {X} number same (x ∷ xs) a = (all xs a.0, distinct_numbers number same xs a.1)
   where
     all : (ys : List X) → (Has ys x → ⊥) → AllByRecursion (λ n. eqb (number x) n ≡ false) (map number ys)
     all [] n = tt
@@ -253,15 +254,15 @@ number_has k [] p h e = absurd h
 number_has k (q ∷ ps) p (inl d) e = or_left _ _ (eq-eqb k (place_number q) (sym e ∙ ap place_number (sym d)))
 number_has k (q ∷ ps) p (inr h) e = or_right _ _ (number_has k ps p h e)
 
--- places that are apart, each of which the second list has, are no more than it has
+-- distinct places, each of which the second list has, are no more than it has
 pub fewer : (ps qs : List Place) → AreDistinct ps → ((p : Place) → Has ps p → Has qs p) → length ps ≤ length qs
 fewer ps qs a f =
     let l : length (map place_number ps) ≤ length (map place_number qs) =
     length-le_from_is_member nat_eq_equiv (map place_number ps) (map place_number qs)
-    (distinct place_number same_number ps a) (λ k h. let r = has_number k ps h in number_has k qs r.0 (f r.0 r.1) r.2) in
+    (distinct_numbers place_number same_number ps a) (λ k h. let r = has_number k ps h in number_has k qs r.0 (f r.0 r.1) r.2) in
     omega (arith, length-map ps place_number, length-map qs place_number)
 
-pub listed_few : (j : Job) (n : ℕ) (m : BTreeMap ℕ ℕ) (ps qs : List Place) (i : ℕ) → ListsMarks m qs → Agrees m ps → IsWalked j n ps i → length qs ≤ n
+pub listed_few : (j : Job) (n : ℕ) (m : BTreeMap ℕ ℕ) (ps qs : List Place) (i : ℕ) → ListsMarks m qs → MarksAgree m ps → IsWalked j n ps i → length qs ≤ n
 listed_few j n m ps qs i l a w = search (rules, fewer, apart_sorted, sorted_places, mark_is_place)
 
 -- ---- writing out the places of one address

@@ -1,13 +1,13 @@
 -- The first of a job's offences is the verdict.
 use Rattle.chan_walk.proofs.Names.{AllByRecursion, ap, append-nil, append_assoc, Area, AreDistinct}
 use Rattle.chan_walk.proofs.Names.{AreReached, arith, Bool, both_ways, cases_lt, ccw_at-some}
-use Rattle.chan_walk.proofs.Names.{Changes, false, get_or, Has, HasFault, HasOffences, inl, inr}
-use Rattle.chan_walk.proofs.Names.{IsArgumentByte, IsCcwByte, IsClear, IsOwn, IsReachable, Job}
-use Rattle.chan_walk.proofs.Names.{length, lies_in, List, map, min, nat_cmp, None, Offends, Option}
-use Rattle.chan_walk.proofs.Names.{Place, place_of, places_of_looks, Reason, refl, rules}
-use Rattle.chan_walk.proofs.Names.{SeekOutside, Seen, Some, StoresOver, subst, sym, take, true}
-use Rattle.chan_walk.proofs.Names.{way_of, WeakensMask, ℕ, [], ◌++◌, ◌<◌, ◌↔◌, ◌∙◌, ◌∷◌, ◌≡◌, ◌≤◌}
-use Rattle.chan_walk.proofs.Names.{◌⊎◌}
+use Rattle.chan_walk.proofs.Names.{ChangesGuarded, false, get_or, Has, HasFault, HasOffences, inl}
+use Rattle.chan_walk.proofs.Names.{inr, IsArgumentByte, IsCcwByte, IsClear, HasOwnFault}
+use Rattle.chan_walk.proofs.Names.{IsReachable, Job, length, lies_in, List, map, min, nat_cmp, None}
+use Rattle.chan_walk.proofs.Names.{Offends, Option, Place, place_of, places_of_looks, Reason, refl}
+use Rattle.chan_walk.proofs.Names.{rules, SeekOutside, Seen, Some, StoresOver, subst, sym, take}
+use Rattle.chan_walk.proofs.Names.{true, way_of, WeakensMask, ℕ, [], ◌++◌, ◌<◌, ◌↔◌, ◌∙◌, ◌∷◌, ◌≡◌}
+use Rattle.chan_walk.proofs.Names.{◌≤◌, ◌⊎◌}
 use Rattle.std.proofs.Common.{IsTrue, ◌==◌, drop, slice_get, Less}
 use Rattle.std.proofs.lemmas.Grind.{common_steps}
 use Rattle.std.specs.List.Sorted.{IsNonDecreasingBy, IsPermutation, IsStrictlyIncreasing}
@@ -33,7 +33,7 @@ use Rattle.chan_walk.specs.Reason.{number_of}
 use Rattle.chan_walk.specs.Verdict.{ComesFirst}
 use Rattle.chan_walk.proofs.Theory.Checks.{check_stands}
 use Rattle.chan_walk.proofs.Theory.Faults.{clear_check, fault_unique}
-use Rattle.chan_walk.proofs.Algorithms.InOrder.{cmp_less, distinct}
+use Rattle.chan_walk.proofs.Algorithms.InOrder.{cmp_less, distinct_numbers}
 use Rattle.chan_walk.proofs.Theory.Lists.{contains_has, has_cases, has_contains, has_left, has_push}
 use Rattle.chan_walk.proofs.Theory.Lists.{has_right, at_has}
 use Rattle.chan_walk.proofs.Algorithms.Looking.{number_of_places, place_at}
@@ -123,10 +123,10 @@ same_offence o t e =
 
 pub increasing : (os ts : List Offence) → IsNonDecreasingBy offence_number ts
     → IsPermutation os ts → AreDistinct os → IsStrictlyIncreasing (map offence_number ts)
-increasing os ts up moved apart =
+increasing os ts up moved distinct =
     search (
       rules,
-      distinct offence_number same_offence,
+      distinct_numbers offence_number same_offence,
       IsDistinct-IsPermutation,
       eqb_flips,
       IsPermutation-map,
@@ -145,7 +145,7 @@ apart_append (x ∷ xs) ys a b n = search (rules, has_cases, apart_append xs ys 
 
 -- none, or one
 pub adds_none : (Off : Place → Reason → Type 0) (p : Place) (os ts : List Offence) → ts ≡ os → ((r : Reason) → Off p r → ⊥) → AddsOffences Off p os ts
-adds_none Off p os ts e n = record { more = []; is = e ∙ sym (append-nil os); exactly = λ o. ((λ h. absurd h), λ h. absurd (n o.reason h.1)); apart = tt }
+adds_none Off p os ts e n = record { more = []; is = e ∙ sym (append-nil os); exactly = λ o. ((λ h. absurd h), λ h. absurd (n o.reason h.1)); distinct = tt }
 
 pub adds_one : (Off : Place → Reason → Type 0) (p : Place) (r : Reason) (os ts : List Offence)
     → ts ≡ os ++ offence p r ∷ [] → Off p r → ((t : Reason) → Off p t → r ≡ t) → AddsOffences Off p os ts
@@ -158,7 +158,7 @@ adds_both One Other Off p os ts us a b either never = search (rules, append_asso
 
 -- one place more
 pub offences_none : (Off : Place → Reason → Type 0) (os : List Offence) → os ≡ [] → HasOffences Off [] os
-offences_none Off os e = subst (HasOffences Off []) (sym e) (record { exactly = λ o. ((λ h. absurd h), λ h. absurd h.0); apart = tt })
+offences_none Off os e = subst (HasOffences Off []) (sym e) (record { exactly = λ o. ((λ h. absurd h), λ h. absurd h.0); distinct = tt })
 
 pub offences_more : (Off : Place → Reason → Type 0) (ps : List Place) (p : Place) (os ts : List Offence)
     → (Has ps p → ⊥) → HasOffences Off ps os → AddsOffences Off p os ts → HasOffences Off (ps ++ p ∷ []) ts
@@ -167,7 +167,7 @@ offences_more Off ps p os ts new h a = search (rules, has_cases, has_push, apart
 -- the place of the next look is new
 pub new_place : (ls : List Seen) (i : ℕ) (l : Seen) → AreDistinct (places_of_looks ls)
     → i < length ls → l ≡ get_or ls i l → Has (places_of_looks (take i ls)) l.place → ⊥
-new_place ls i l apart within e h =
+new_place ls i l distinct within e h =
     let taken = at_has (places_of_looks (take i ls)) l.place h in
     let all : length (places_of_looks (take i ls)) ≡ length (take i ls) = number_of_places (take i ls) in
     let some : length (take i ls) ≡ min i (length ls) = length-take i ls in
@@ -175,7 +175,7 @@ new_place ls i l apart within e h =
     sym (map-append place_of (take i ls) (drop i ls)) ∙ ap places_of_looks (take-append-drop i ls) in
     let there : slice_get (places_of_looks ls) taken.0 ≡ Some l.place =
     ap (λ z. slice_get z taken.0) (sym split) ∙ slice_get-append (places_of_looks (take i ls)) (places_of_looks (drop i ls)) taken.0 taken.1 ∙ taken.2 in
-    let same = same_index (places_of_looks ls) l.place taken.0 i apart there (place_at ls i l within e) in
+    let same = same_index (places_of_looks ls) l.place taken.0 i distinct there (place_at ls i l within e) in
     omega (arith, same, taken.1, all, some)
 
 -- ---- stores over guarded bytes
@@ -188,15 +188,15 @@ stores_both j l b given areas P look clear e same h = search (rules, ccw_at-wher
 -- the two changes at a place
 pub adds_changes : (j : Job) (p : Place) (a b : Bool) (os ts us : List Offence) → IsTrue a ↔ StoresOver j p (IsCcwByte j)
     → IsTrue b ↔ StoresOver j p (IsArgumentByte j) → AddsOffences (λ _ t. (t ≡ ChangesCcw) × IsTrue a) p os ts
-    → AddsOffences (λ _ t. (t ≡ ChangesArgument) × IsTrue b) p ts us → AddsOffences (Changes j) p os us
+    → AddsOffences (λ _ t. (t ≡ ChangesArgument) × IsTrue b) p ts us → AddsOffences (ChangesGuarded j) p os us
 adds_changes j p a b os ts us f g one other =
-    adds_both (λ _ t. (t ≡ ChangesCcw) × IsTrue a) (λ _ t. (t ≡ ChangesArgument) × IsTrue b) (Changes j) p os ts us one other (λ r. (to r, from r)) never
+    adds_both (λ _ t. (t ≡ ChangesCcw) × IsTrue a) (λ _ t. (t ≡ ChangesArgument) × IsTrue b) (ChangesGuarded j) p os ts us one other (λ r. (to r, from r)) never
   where
-    to : (r : Reason) → Changes j p r → ((r ≡ ChangesCcw) × IsTrue a) ⊎ ((r ≡ ChangesArgument) × IsTrue b)
+    to : (r : Reason) → ChangesGuarded j p r → ((r ≡ ChangesCcw) × IsTrue a) ⊎ ((r ≡ ChangesArgument) × IsTrue b)
     to r (inl h) = inl (h.0, f.1 h.1)
     to r (inr h) = inr (h.0, g.1 h.1)
 
-    from : (r : Reason) → ((r ≡ ChangesCcw) × IsTrue a) ⊎ ((r ≡ ChangesArgument) × IsTrue b) → Changes j p r
+    from : (r : Reason) → ((r ≡ ChangesCcw) × IsTrue a) ⊎ ((r ≡ ChangesArgument) × IsTrue b) → ChangesGuarded j p r
     from r (inl h) = inl (h.0, f.0 h.1)
     from r (inr h) = inr (h.0, g.0 h.1)
 
@@ -207,20 +207,20 @@ adds_changes j p a b os ts us f g one other =
 
 -- an own fault counts
 pub fault_offences : (j : Job) (ps : List Place) (os : List Offence) → AreReached j ps
-    → HasOffences (IsOwn j) ps os → (t : Offence) → Has os t → (o : Offence) → Has os o ↔ Offending j o
+    → HasOffences (HasOwnFault j) ps os → (t : Offence) → Has os t → (o : Offence) → Has os o ↔ Offending j o
 fault_offences j ps os r h t k o = ((λ m. let z = (h.exactly o).0 m in (r.1 o.place z.0, inl z.1)), λ z. (h.exactly o).1 (r.0 o.place z.0, go z.1))
   where
-    go : Offends j o.place o.reason → IsOwn j o.place o.reason
+    go : Offends j o.place o.reason → HasOwnFault j o.place o.reason
     go (inl f) = f
     go (inr g) = let z = (h.exactly t).0 k in absurd (not_clear j t.place t.reason z.1 (r.1 t.place z.0) g.0)
 
 -- where there is none, the changes do
 pub no_faults : (j : Job) (ps : List Place) (os : List Offence) → AreReached j ps
-    → HasOffences (IsOwn j) ps os → os ≡ [] → (p : Place) (t : Reason) → IsReachable j p → IsOwn j p t → ⊥
+    → HasOffences (HasOwnFault j) ps os → os ≡ [] → (p : Place) (t : Reason) → IsReachable j p → HasOwnFault j p t → ⊥
 no_faults j ps os r h e p t m f = subst (λ z. Has z (offence p t)) e ((h.exactly (offence p t)).1 (r.0 p m, f))
 
 pub change_offences : (j : Job) (ps : List Place) (os : List Offence) → AreReached j ps
-    → ((p : Place) (t : Reason) → IsReachable j p → IsOwn j p t → ⊥) → HasOffences (Changes j) ps os → (o : Offence) → Has os o ↔ Offending j o
+    → ((p : Place) (t : Reason) → IsReachable j p → HasOwnFault j p t → ⊥) → HasOffences (ChangesGuarded j) ps os → (o : Offence) → Has os o ↔ Offending j o
 change_offences j ps os r none h o = (
   (λ m. let z = (h.exactly o).0 m in (r.1 o.place z.0, inr (clear_all j none, z.1))),
   λ z. (h.exactly o).1 (r.0 o.place z.0, change_of j none o.place o.reason z.0 z.1),
@@ -228,18 +228,18 @@ change_offences j ps os r none h o = (
 
 -- the own fault of a place, and none
 pub added_fault : (j : Job) (p : Place) (r : Reason) (os ts : List Offence)
-    → ts ≡ os ++ offence p r ∷ [] → HasFault j p (Some r) → AddsOffences (IsOwn j) p os ts
-added_fault j p r os ts e f = adds_one (IsOwn j) p r os ts e f only
+    → ts ≡ os ++ offence p r ∷ [] → HasFault j p (Some r) → AddsOffences (HasOwnFault j) p os ts
+added_fault j p r os ts e f = adds_one (HasOwnFault j) p r os ts e f only
   where
-    only : (t : Reason) → IsOwn j p t → r ≡ t
+    only : (t : Reason) → HasOwnFault j p t → r ≡ t
     only t k = let d : ◌≡◌ {A = Option Reason} (Some r) (Some t) = fault_unique j p (Some r) (Some t) f k in cc
 
 pub unadded_fault : (j : Job) (p : Place) (os ts : List Offence) → ts ≡ os → (o : Option Reason)
-    → ((r : Reason) → o ≡ Some r → ⊥) → HasFault j p o → AddsOffences (IsOwn j) p os ts
+    → ((r : Reason) → o ≡ Some r → ⊥) → HasFault j p o → AddsOffences (HasOwnFault j) p os ts
 unadded_fault j p os ts e (Some r) n f = absurd (n r refl)
-unadded_fault j p os ts e None n f = adds_none (IsOwn j) p os ts e none
+unadded_fault j p os ts e None n f = adds_none (HasOwnFault j) p os ts e none
   where
-    none : (t : Reason) → IsOwn j p t → ⊥
+    none : (t : Reason) → HasOwnFault j p t → ⊥
     none t k = let d : ◌≡◌ {A = Option Reason} None (Some t) = fault_unique j p None (Some t) f k in cc
 
 -- a list of no length, and one of some

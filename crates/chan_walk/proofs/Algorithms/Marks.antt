@@ -1,14 +1,14 @@
 -- Marks, and the places that they tell of.
-use Rattle.chan_walk.proofs.Names.{Agrees, ap, arith, bit_at, Bool, BTreeMap, false, List, marks_of}
-use Rattle.chan_walk.proofs.Names.{nat_cmp, Place, rules, Some, sym, way_of, ℕ, [], ◌%◌, ◌++◌, ◌<◌}
-use Rattle.chan_walk.proofs.Names.{◌^◌, ◌∙◌, ◌∷◌, ◌≡◌}
+use Rattle.chan_walk.proofs.Names.{MarksAgree, ap, arith, bit_at, Bool, BTreeMap, false, List}
+use Rattle.chan_walk.proofs.Names.{marks_of, nat_cmp, Place, rules, Some, sym, way_of, ℕ, [], ◌%◌}
+use Rattle.chan_walk.proofs.Names.{◌++◌, ◌<◌, ◌^◌, ◌∙◌, ◌∷◌, ◌≡◌}
 use Rattle.std.proofs.Common.{◌*◌, w8}
 use Rattle.std.specs.Int.RustNames.{bit_or}
 use Rattle.std.proofs.lemmas.Bool.Decides.{nat_tests}
 use Rattle.std.proofs.lemmas.Nat.Bits.{bit_at_set_same, bit_at_set_other}
 use Rattle.chan_walk.specs.declared.place.Entry.{Entry}
 use Rattle.chan_walk.specs.Places.{entry_number, transfer_number, place_number}
-use Rattle.chan_walk.specs.Marks.{place_at, or_none}
+use Rattle.chan_walk.specs.Marks.{place_at, marks_or_none}
 use Rattle.chan_walk.specs.Walk.{Marks}
 use Rattle.chan_walk.proofs.Theory.Lists.{has_push}
 use Rattle.std.specs.BTreeMap as tree
@@ -51,12 +51,12 @@ apart_keys a b d = grind (arith, nat_tests)
 pub mark_put : (m n : BTreeMap ℕ ℕ) (q : Place) (w v : ℕ) → w ≡ way_of q
     → v ≡ bit_or (marks_of m q.address) (1 * 2 ^ w % 2 ^ 8) → tree.Updates nat_cmp m n q.address (Some v) → Marks m n q
 mark_put m n q w v f e u =
-    marks_by m n q (λ a d. ap or_none (u.2 a (apart_keys q.address a d)))
+    marks_by m n q (λ a d. ap marks_or_none (u.2 a (apart_keys q.address a d)))
     (λ i d. ap (λ z. bit_at z i) now ∙ bit_at_set_other w8 (marks_of m q.address) (way_of q) (way_small q) i d)
     (ap (λ z. bit_at z (way_of q)) now ∙ bit_at_set_same w8 (marks_of m q.address) (way_of q) (way_small q))
   where
     now : marks_of n q.address ≡ bit_or (marks_of m q.address) (1 * 2 ^ way_of q % 2 ^ 8)
-    now = ap or_none u.1 ∙ e ∙ ap (λ z. bit_or (marks_of m q.address) (1 * 2 ^ z % 2 ^ 8)) f
+    now = ap marks_or_none u.1 ∙ e ∙ ap (λ z. bit_or (marks_of m q.address) (1 * 2 ^ z % 2 ^ 8)) f
 
-pub agrees_push : (m n : BTreeMap ℕ ℕ) (q : Place) (ps qs : List Place) → qs ≡ ps ++ q ∷ [] → Agrees m ps → Marks m n q → Agrees n qs
+pub agrees_push : (m n : BTreeMap ℕ ℕ) (q : Place) (ps qs : List Place) → qs ≡ ps ++ q ∷ [] → MarksAgree m ps → Marks m n q → MarksAgree n qs
 agrees_push m n q ps qs e a k p = search (rules, has_push)

@@ -9,14 +9,14 @@ use Rattle.ccw_core.proofs.Covering.{lies_in-nil}
 use Rattle.chan_walk.specs.Place.{data_at}
 use Rattle.chan_walk.specs.Guard.{AddsBytes}
 use Rattle.chan_walk.specs.Look.{IsLook}
-use Rattle.chan_walk.specs.Moved.{IsDataOf, IsSeenByte, Passes}
+use Rattle.chan_walk.specs.Moved.{IsDataOf, IsSeenByte, PassesTest}
 use Rattle.chan_walk.proofs.Algorithms.Guarding.{HoldBytes}
 use Rattle.chan_areas.proofs.Merging.{lies_in-cases, lies_in-first}
 use Rattle.chan_walk.proofs.Algorithms.Looking.{ccw_seen}
 
 -- the CCW at p passes the test, and its data range has the byte at b
 abbrev pub HasData : (Place → Fields → Bool) → Job → Place → ℕ → Type 0
-HasData test j p b = Passes test j p × ((data_at j p).start ≤ b) × (b < end_of (data_at j p))
+HasData test j p b = PassesTest test j p × ((data_at j p).start ≤ b) × (b < end_of (data_at j p))
 
 -- what was seen is the CCW that stands there
 pub seen_at : (j : Job) (l : Seen) (c : Fields) → IsLook j l → l.ccw ≡ Some c

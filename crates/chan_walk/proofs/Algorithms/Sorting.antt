@@ -12,7 +12,7 @@ use Rattle.std.proofs.lemmas.List.Sorted.{IsPermutation-sym, Contains-permutatio
 use Rattle.std.proofs.lemmas.Map.Keys.{IsDistinct-IsPermutation, IsStrictlyIncreasing-from_distinct}
 use Rattle.std.proofs.lemmas.Simd.{map-map}
 use Rattle.chan_walk.specs.Places.{place_number}
-use Rattle.chan_walk.proofs.Algorithms.InOrder.{distinct}
+use Rattle.chan_walk.proofs.Algorithms.InOrder.{distinct_numbers}
 use Rattle.chan_walk.proofs.Theory.Lists.{contains_has, has_contains}
 use Rattle.chan_walk.proofs.Algorithms.Marks.{same_number}
 
@@ -45,11 +45,11 @@ eqb_flips x y = search rules
 -- sorted by place, and no place twice
 pub increasing : (cmp : Place → Place → Ordering) (ls ms : List Seen) → ((p q : Place) → cmp p q ≡ nat_cmp (place_number p) (place_number q))
     → IsSortedByKey place_of cmp ms → IsPermutation ls ms → AreDistinct (places_of_looks ls) → IsStrictlyIncreasing (map place_number (places_of_looks ms))
-increasing cmp ls ms same up moved apart =
+increasing cmp ls ms same up moved distinct =
     search (
       rules,
       numbers_of_places,
-      distinct place_number same_number,
+      distinct_numbers place_number same_number,
       IsDistinct-IsPermutation,
       eqb_flips,
       IsPermutation-map,

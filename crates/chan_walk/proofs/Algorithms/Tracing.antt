@@ -1,5 +1,5 @@
 -- From which place each place was found: the path back is the shortest, and the one that goes to next.
-use Rattle.chan_walk.proofs.Names.{Adds, ap, AreDistinct, AreSuccessors, arith, cases_lt}
+use Rattle.chan_walk.proofs.Names.{AddsPlace, ap, AreDistinct, AreSuccessors, arith, cases_lt}
 use Rattle.chan_walk.proofs.Names.{first_place, Has, HasFault, inl, inr, IsPath, IsReachable, Job}
 use Rattle.chan_walk.proofs.Names.{length, length-append, List, None, Option, Place, Reason, refl}
 use Rattle.chan_walk.proofs.Names.{rules, Some, subst, suc, sym, zero, ℕ, [], ◌++◌, ◌+◌, ◌<◌, ◌∙◌}
@@ -8,7 +8,8 @@ use Rattle.std.proofs.Common.{slice_index}
 use Rattle.std.specs.List.{slice_get}
 use Rattle.chan_walk.specs.declared.successor.Next.{Next}
 use Rattle.chan_walk.specs.Paths.{IsNext, IsSkip, IsFirstOf}
-use Rattle.chan_walk.specs.Walk.{AreSiblings, Follows, IsAmong, IsBest, IsFoundBy, IsFrom, IsTraced}
+use Rattle.chan_walk.specs.Walk.{AreSiblings, Follows, IsAmong, IsBestPath, IsFoundBy, IsFoundFrom}
+use Rattle.chan_walk.specs.Walk.{IsTraced}
 use Rattle.chan_walk.proofs.Theory.Faults.{fault_exists}
 use Rattle.chan_walk.proofs.Theory.Lists.{has_at, at_has}
 use Rattle.chan_walk.proofs.Algorithms.Walking.{follows_exactly, slice_get-append}
@@ -68,7 +69,7 @@ module _ (j : Job) (ps : List Place) (fs : List ℕ) (i : ℕ) (p q : Place)
   there' : slice_get more i ≡ Some p
   there' = slice_get-append ps (q ∷ []) i within ∙ there
 
-  from : (k : ℕ) → 0 < k → k < length more → (k < length ps) ⊎ (length ps ≤ k) → IsFrom j more from_more (i + 1) k
+  from : (k : ℕ) → 0 < k → k < length more → (k < length ps) ⊎ (length ps ≤ k) → IsFoundFrom j more from_more (i + 1) k
   from k h l (inl b) =
       let r = t.from k h b in
       let e = old k b in
@@ -212,7 +213,7 @@ module _ (j : Job) (p : Place) (n : Next) (i : ℕ) (are : AreSuccessors j p n) 
   found_before ps fs t q h = let a = at_has ps q h in (a.0, a.2, λ z. let m = (t.from a.0 z a.1).among in omega arith)
 
   next_found : (l : ℕ) (ps qs : List Place) (fs gs : List ℕ) → IsTraced j ps fs i i → slice_get ps i ≡ Some p
-      → (o : Option Place) → n.next ≡ o → Adds l o i ps qs fs gs → HasNext j p n i qs gs
+      → (o : Option Place) → n.next ≡ o → AddsPlace l o i ps qs fs gs → HasNext j p n i qs gs
   next_found l ps qs fs gs t there o e a = go o e a
     where
       none : (k : ℕ) (s : Place) → 0 < k → slice_get ps k ≡ Some s → slice_index fs k ≡ i → ⊥
@@ -224,7 +225,7 @@ module _ (j : Job) (p : Place) (n : Next) (i : ℕ) (are : AreSuccessors j p n) 
       moved : qs ≡ ps → gs ≡ fs → HasNext j p n i ps fs → HasNext j p n i qs gs
       moved d f h = subst (λ z. HasNext j p n i z gs) (sym d) (subst (λ z. HasNext j p n i ps z) (sym f) h)
 
-      go : (o : Option Place) → n.next ≡ o → Adds l o i ps qs fs gs → HasNext j p n i qs gs
+      go : (o : Option Place) → n.next ≡ o → AddsPlace l o i ps qs fs gs → HasNext j p n i qs gs
       go None e a = moved a.0 a.1 (same (λ q g. absurd (cc)))
       go (Some q) e (inl a) = moved a.1 a.2 (same (λ r g. let d : q ≡ r = cc in found_before ps fs (traced_more j ps fs i t) r (subst (Has ps) d a.0)))
       go (Some q) e (inr a) = subst (λ z. HasNext j p n i z gs) (sym a.1) (subst (λ z. HasNext j p n i (ps ++ q ∷ []) z) (sym a.3) more)
@@ -254,7 +255,7 @@ module _ (j : Job) (p : Place) (n : Next) (i : ℕ) (are : AreSuccessors j p n) 
           }
 
   skip_found : (l : ℕ) (qs rs : List Place) (gs hs : List ℕ) → HasNext j p n i qs gs
-      → (o : Option Place) → n.skip ≡ o → Adds l o i qs rs gs hs → HasBoth j p n i rs hs
+      → (o : Option Place) → n.skip ≡ o → AddsPlace l o i qs rs gs hs → HasBoth j p n i rs hs
   skip_found l qs rs gs hs m o e a = go o e a
     where
       same : ((q : Place) → n.skip ≡ Some q → IsFoundBy qs gs i q) → HasBoth j p n i qs gs
@@ -267,7 +268,7 @@ module _ (j : Job) (p : Place) (n : Next) (i : ℕ) (are : AreSuccessors j p n) 
       moved : rs ≡ qs → hs ≡ gs → HasBoth j p n i qs gs → HasBoth j p n i rs hs
       moved d f h = subst (λ z. HasBoth j p n i z hs) (sym d) (subst (λ z. HasBoth j p n i qs z) (sym f) h)
 
-      go : (o : Option Place) → n.skip ≡ o → Adds l o i qs rs gs hs → HasBoth j p n i rs hs
+      go : (o : Option Place) → n.skip ≡ o → AddsPlace l o i qs rs gs hs → HasBoth j p n i rs hs
       go None e a = moved a.0 a.1 (same (λ q g. absurd (cc)))
       go (Some q) e (inl a) = moved a.1 a.2 (same (λ r g. let d : q ≡ r = cc in found_before qs gs m.traced r (subst (Has qs) d a.0)))
       go (Some q) e (inr a) = subst (λ z. HasBoth j p n i z hs) (sym a.1) (subst (λ z. HasBoth j p n i (qs ++ q ∷ []) z) (sym a.3) more)
@@ -307,24 +308,24 @@ module _ (j : Job) (p : Place) (n : Next) (i : ℕ) (are : AreSuccessors j p n) 
           subst (λ z. IsFoundBy rs hs z q) at (b.has q ((follows_exactly j p n are q).1 (subst (λ z. Follows j z q) (sym same) f)))
 
   pub traced_on : (l : ℕ) (ps qs rs : List Place) (fs gs hs : List ℕ) → IsTraced j ps fs i i → slice_get ps i ≡ Some p
-      → Adds l n.next i ps qs fs gs → Adds l n.skip i qs rs gs hs → IsTraced j rs hs (i + 1) (i + 1)
+      → AddsPlace l n.next i ps qs fs gs → AddsPlace l n.skip i qs rs gs hs → IsTraced j rs hs (i + 1) (i + 1)
   traced_on l ps qs rs fs gs hs t there a b = both_traced rs hs (skip_found l qs rs gs hs (next_found l ps qs fs gs t there n.next refl a) n.skip refl b)
 
 -- ---- the path back
 
 module _ (j : Job) (ps : List Place) (fs : List ℕ) (i : ℕ) (t : IsTraced j ps fs i i)
-    (all : length ps ≤ i) (apart : AreDistinct ps) (found : (p : Place) → IsReachable j p → Has ps p) where
-  pub best_first : IsBest j ps 0 (first_place j) []
+    (all : length ps ≤ i) (distinct : AreDistinct ps) (found : (p : Place) → IsReachable j p → Has ps p) where
+  pub best_first : IsBestPath j ps 0 (first_place j) []
   best_first = search rules
 
   pub best_next : (k : ℕ) (c p : Place) (rest : List Place) → 0 < k → slice_get ps k ≡ Some c
-      → IsBest j ps (slice_index fs k) p rest → IsBest j ps k c (p ∷ rest)
+      → IsBestPath j ps (slice_index fs k) p rest → IsBestPath j ps k c (p ∷ rest)
   best_next k c p rest pos here b = record { here = here; path = (b.path, follows.0, follows.1); first = λ l q qs h e f. first l q qs h e f }
     where
       low : k < length ps
       low = slice_get_within ps k c here
 
-      r : IsFrom j ps fs i k
+      r : IsFoundFrom j ps fs i k
       r = t.from k pos low
 
       follows : Follows j p c
@@ -345,7 +346,7 @@ module _ (j : Job) (ps : List Place) (fs : List ℕ) (i : ℕ) (t : IsTraced j p
           same = cc
 
           at : slice_index fs k ≡ m
-          at = same_index ps x (slice_index fs k) m apart (b.here ∙ ap Some same) a
+          at = same_index ps x (slice_index fs k) m distinct (b.here ∙ ap Some same) a
 
           go : (k < l) ⊎ (l ≤ k) → IsFirstOf j (c ∷ p ∷ rest) (q ∷ x ∷ qs)
           go (inr le) =
@@ -367,11 +368,11 @@ module _ (j : Job) (ps : List Place) (fs : List ℕ) (i : ℕ) (t : IsTraced j p
               inr (ap suc n, inr (inr (s, next, skip)))
 
       first : (l : ℕ) (q : Place) (qs : List Place) → k ≤ l → slice_get ps l ≡ Some q → IsPath j (q ∷ qs) → IsFirstOf j (c ∷ p ∷ rest) (q ∷ qs)
-      first l q [] h e f = let z = same_index ps (first_place j) l 0 apart (e ∙ ap Some f) t.begins in absurd (omega arith)
+      first l q [] h e f = let z = same_index ps (first_place j) l 0 distinct (e ∙ ap Some f) t.begins in absurd (omega arith)
       first l q (x ∷ qs) h e f =
           let a = at_has ps x (found x (qs, f.0)) in
           let by = t.found a.0 x q (omega (arith, a.1)) a.2 (f.1, f.2) in
-          let same = same_index ps q by.0 l apart by.1 e in
+          let same = same_index ps q by.0 l distinct by.1 e in
           let lo : slice_index fs l ≤ a.0 = subst (λ z. slice_index fs z ≤ a.0) same (by.2 (omega arith)) in
           let up = t.rising k l pos h (slice_get_within ps l q e) in
           meet l a.0 q x qs h e a.2 lo (b.first a.0 x qs (omega arith) a.2 f.0)

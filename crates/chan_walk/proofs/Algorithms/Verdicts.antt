@@ -1,13 +1,13 @@
 -- What offends: own faults, and where there is none, changes.
-use Rattle.chan_walk.proofs.Names.{Area, AreClear, ccw_of, Changes, Fields, HasFault, inl, inr}
-use Rattle.chan_walk.proofs.Names.{IsClear, IsOwn, IsReachable, Job, lies_in, List, None, Offends}
-use Rattle.chan_walk.proofs.Names.{Option, Place, Reason, rules, Some, stores, StoresOver, true, ℕ}
-use Rattle.chan_walk.proofs.Names.{◌↔◌, ◌≡◌}
+use Rattle.chan_walk.proofs.Names.{Area, AreClear, ccw_of, ChangesGuarded, Fields, HasFault, inl}
+use Rattle.chan_walk.proofs.Names.{inr, IsClear, HasOwnFault, IsReachable, Job, lies_in, List, None}
+use Rattle.chan_walk.proofs.Names.{Offends, Option, Place, Reason, rules, Some, stores, StoresOver}
+use Rattle.chan_walk.proofs.Names.{true, ℕ, ◌↔◌, ◌≡◌}
 use Rattle.chan_areas.specs.Merged.{Meets}
 use Rattle.chan_walk.proofs.Theory.Faults.{fault_exists, fault_unique}
 
 -- where no reachable place has an own fault, each is clear
-pub clear_all : (j : Job) → ((p : Place) (t : Reason) → IsReachable j p → IsOwn j p t → ⊥) → AreClear j
+pub clear_all : (j : Job) → ((p : Place) (t : Reason) → IsReachable j p → HasOwnFault j p t → ⊥) → AreClear j
 clear_all j h p reached = go (fault_exists j p)
   where
     go : (r : Option Reason) × HasFault j p r → IsClear j p
@@ -18,8 +18,8 @@ pub not_clear : (j : Job) (p : Place) (r : Reason) → HasFault j p (Some r) →
 not_clear j p r f reached clear = let d : ◌≡◌ {A = Option Reason} None (Some r) = fault_unique j p None (Some r) (clear p reached) f in cc
 
 -- without own faults, only changes offend
-pub change_of : (j : Job) → ((p : Place) (t : Reason) → IsReachable j p → IsOwn j p t → ⊥)
-    → (p : Place) (t : Reason) → IsReachable j p → Offends j p t → Changes j p t
+pub change_of : (j : Job) → ((p : Place) (t : Reason) → IsReachable j p → HasOwnFault j p t → ⊥)
+    → (p : Place) (t : Reason) → IsReachable j p → Offends j p t → ChangesGuarded j p t
 change_of j none p t r (inl o) = absurd (none p t r o)
 change_of j none p t r (inr o) = o.1
 

@@ -1,5 +1,5 @@
 -- A walk finds what is reachable, and nothing else.
-use Rattle.chan_walk.proofs.Names.{Adds, ap, AreDistinct, AreLooks, AreReached, AreSuccessors}
+use Rattle.chan_walk.proofs.Names.{AddsPlace, ap, AreDistinct, AreLooks, AreReached, AreSuccessors}
 use Rattle.chan_walk.proofs.Names.{arith, cases_lt, first_place, Has, HasFault, inl, inr, IsPath}
 use Rattle.chan_walk.proofs.Names.{IsReachable, IsWalked, Job, length, length-append, List, None}
 use Rattle.chan_walk.proofs.Names.{Option, Place, place_of, places_of_looks, Reason, refl, rules}
@@ -11,7 +11,7 @@ use Rattle.std.proofs.lemmas.Option.{slice_get-map}
 use Rattle.chan_walk.specs.declared.successor.Next.{Next}
 use Rattle.chan_walk.specs.Places.{HasMoreThan}
 use Rattle.chan_walk.specs.Successor.{Successor}
-use Rattle.chan_walk.specs.Walk.{Follows, IsAmong, HasFound, Overflows}
+use Rattle.chan_walk.specs.Walk.{Follows, IsAmong, HasFound, HasNoRoomFor}
 use Rattle.chan_walk.proofs.Theory.Faults.{fault_exists, fault_unique}
 use Rattle.chan_walk.proofs.Theory.Lists.{has_at, has_left, has_push, at_has}
 
@@ -49,7 +49,7 @@ grows j n q ps i r d l w = record {
   walked = record {
     few = omega (arith, length-append ps (q ∷ []));
     within = omega (arith, length-append ps (q ∷ []), w.within);
-    apart = apart_push q ps w.apart d;
+    distinct = apart_push q ps w.distinct d;
     begins = has_left ps _ _ w.begins;
     only = only_push j q ps r w.only;
     closed = λ k p s h e f. has_left ps _ s (w.closed k p s h (sym (slice_get-append ps (q ∷ []) k (omega (arith, w.within))) ∙ e) f);
@@ -61,7 +61,7 @@ grows j n q ps i r d l w = record {
 }
 
 walked_adds : (j : Job) (n : ℕ) (o : Option Place) (from : ℕ) (ps qs : List Place) (fs gs : List ℕ) (i : ℕ)
-    → ((q : Place) → o ≡ Some q → IsReachable j q) → Adds n o from ps qs fs gs → IsWalked j n ps i → Grows j n o ps qs i
+    → ((q : Place) → o ≡ Some q → IsReachable j q) → AddsPlace n o from ps qs fs gs → IsWalked j n ps i → Grows j n o ps qs i
 walked_adds j n None from ps qs fs gs i r a w =
     subst (λ z. Grows j n None ps z i) (sym a.0)
     (record { walked = w; keeps = λ p k. k; has = λ q e. absurd (cc); same = λ k l. refl; longer = omega arith })
@@ -69,11 +69,11 @@ walked_adds j n (Some q) from ps qs fs gs i r (inl a) w = subst (λ z. Grows j n
 walked_adds j n (Some q) from ps qs fs gs i r (inr a) w = subst (λ z. Grows j n (Some q) ps z i) (sym a.1) (grows j n q ps i (r q refl) a.0 a.2 w)
 
 walked_overflows : (j : Job) (n : ℕ) (o : Option Place) (ps : List Place) (i : ℕ)
-    → ((q : Place) → o ≡ Some q → IsReachable j q) → Overflows n o ps → IsWalked j n ps i → HasMoreThan j n
+    → ((q : Place) → o ≡ Some q → IsReachable j q) → HasNoRoomFor n o ps → IsWalked j n ps i → HasMoreThan j n
 walked_overflows j n None ps i r a w = absurd a
 walked_overflows j n (Some q) ps i r a w = record {
   places = ps ++ q ∷ [];
-  apart = apart_push q ps w.apart a.0;
+  distinct = apart_push q ps w.distinct a.0;
   many = omega (arith, length-append ps (q ∷ []), a.1);
   only = only_push j q ps (r q refl) w.only;
 }
@@ -104,7 +104,7 @@ reaches : (j : Job) (p q : Place) → IsReachable j p → Follows j p q → IsRe
 reaches j p q r f = (p ∷ r.0, (r.1, f.0, f.1))
 
 -- what follows the place of index i
-pub record Leads (j : Job) (ps : List Place) (i : ℕ) (n : Next) : Type 0 where
+pub record ChainLeads (j : Job) (ps : List Place) (i : ℕ) (n : Next) : Type 0 where
   pub from : Place
   pub there : slice_get ps i ≡ Some from
   pub each : (q : Place) → IsAmong n q ↔ Follows j from q
@@ -117,30 +117,31 @@ are_next j ls i l n are e same = subst (AreSuccessors j l.place) (sym same) (are
 
 -- what follows the place of a look is what the look shows
 pub leads_from_look : (j : Job) (ls : List Seen) (i : ℕ) (l : Seen) (n : Next)
-    → AreLooks j ls → slice_get ls i ≡ Some l → n ≡ l.next → Leads j (places_of_looks ls) i n
+    → AreLooks j ls → slice_get ls i ≡ Some l → n ≡ l.next → ChainLeads j (places_of_looks ls) i n
 leads_from_look j ls i l n are e same = search (rules, place_there, follows_exactly, are_next)
 
-from_next : (j : Job) (l : ℕ) (n : Next) (ps : List Place) (i : ℕ) → IsWalked j l ps i → Leads j ps i n → (q : Place) → n.next ≡ Some q → IsReachable j q
+from_next : (j : Job) (l : ℕ) (n : Next) (ps : List Place) (i : ℕ) → IsWalked j l ps i → ChainLeads j ps i n → (q : Place) → n.next ≡ Some q → IsReachable j q
 from_next j l n ps i w s q e = reaches j s.from q (w.only s.from (has_at ps i s.from s.there)) ((s.each q).0 (inl e))
 
-from_skip : (j : Job) (l : ℕ) (n : Next) (ps : List Place) (i : ℕ) → IsWalked j l ps i → Leads j ps i n → (q : Place) → n.skip ≡ Some q → IsReachable j q
+from_skip : (j : Job) (l : ℕ) (n : Next) (ps : List Place) (i : ℕ) → IsWalked j l ps i → ChainLeads j ps i n → (q : Place) → n.skip ≡ Some q → IsReachable j q
 from_skip j l n ps i w s q e = reaches j s.from q (w.only s.from (has_at ps i s.from s.there)) ((s.each q).0 (inr e))
 
-pub next_overflows : (j : Job) (l : ℕ) (n : Next) (ps : List Place) (i : ℕ) → IsWalked j l ps i → Leads j ps i n → Overflows l n.next ps → HasMoreThan j l
+pub next_overflows : (j : Job) (l : ℕ) (n : Next) (ps : List Place) (i : ℕ) → IsWalked j l ps i → ChainLeads j ps i n → HasNoRoomFor l n.next ps
+    → HasMoreThan j l
 next_overflows j l n ps i w s b = walked_overflows j l n.next ps i (from_next j l n ps i w s) b w
 
 pub skip_overflows : (j : Job) (l : ℕ) (n : Next) (from : ℕ) (ps qs : List Place) (fs gs : List ℕ) (i : ℕ)
-    → IsWalked j l ps i → Leads j ps i n → Adds l n.next from ps qs fs gs → Overflows l n.skip qs → HasMoreThan j l
+    → IsWalked j l ps i → ChainLeads j ps i n → AddsPlace l n.next from ps qs fs gs → HasNoRoomFor l n.skip qs → HasMoreThan j l
 skip_overflows j l n from ps qs fs gs i w s a b =
     let g = walked_adds j l n.next from ps qs fs gs i (from_next j l n ps i w s) a w in
     walked_overflows j l n.skip qs i (from_skip j l n ps i w s) b g.walked
 
 pub walked_on : (j : Job) (l : ℕ) (n : Next) (from : ℕ) (ps qs rs : List Place) (fs gs hs : List ℕ) (i : ℕ) → IsWalked j l ps i
-    → i < length ps → Leads j ps i n → Adds l n.next from ps qs fs gs → Adds l n.skip from qs rs gs hs → IsWalked j l rs (i + 1)
+    → i < length ps → ChainLeads j ps i n → AddsPlace l n.next from ps qs fs gs → AddsPlace l n.skip from qs rs gs hs → IsWalked j l rs (i + 1)
 walked_on j l n from ps qs rs fs gs hs i w h s a b = record {
   few = z.walked.few;
   within = omega (arith, y.longer, z.longer);
-  apart = z.walked.apart;
+  distinct = z.walked.distinct;
   begins = z.walked.begins;
   only = z.walked.only;
   closed = λ k p q u e f. close k p q (cases_lt k i) u e f;
@@ -176,7 +177,7 @@ pub walked_first : (j : Job) (n : ℕ) → 0 < n → IsWalked j n (first_place j
 walked_first j n h = record {
   few = omega arith;
   within = omega arith;
-  apart = ((λ m. m), tt);
+  distinct = ((λ m. m), tt);
   begins = inl refl;
   only = only_first j;
   closed = λ k p q l. absurd (omega arith);

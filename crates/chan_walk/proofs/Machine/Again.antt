@@ -1,14 +1,14 @@
 -- Where the verdict is yes, only guarded bytes count, and as these never change, it is yes again.
 use Rattle.chan_walk.proofs.Names.{ap, begins_seek, byte, ccw, ccw_of, chained, ChainOut}
 use Rattle.chan_walk.proofs.Names.{chains_data, false, Fields, inl, inr, is_part, is_transfer}
-use Rattle.chan_walk.proofs.Names.{bytes_held, IsSameIn}
-use Rattle.chan_walk.proofs.Names.{IsGuarded, IsReachable, IsVerdict, Job, kind_of, Leads, length}
-use Rattle.chan_walk.proofs.Names.{Outward, Place, refl, rules, storage_of, straight_to, subst, sym}
-use Rattle.chan_walk.proofs.Names.{transferred_to, true, Yes, ℕ, ◌+◌, ◌∙◌, ◌≡◌}
-use Rattle.chan_walk.specs.Counted.{IsChained, at_once, further, IsCounted, SafeSinceAsked}
-use Rattle.chan_walk.specs.Counted.{with_storage, YesByGuarded, YesStays}
+use Rattle.chan_walk.proofs.Names.{bytes_held, IsSameIn, IsGuarded, IsReachable, IsVerdict, Job}
+use Rattle.chan_walk.proofs.Names.{kind_of, ChainLeads, length, Outward, Place, refl, rules}
+use Rattle.chan_walk.proofs.Names.{storage_of, straight_to, subst, sym, transferred_to, true, Yes}
+use Rattle.chan_walk.proofs.Names.{ℕ, ◌+◌, ◌∙◌, ◌≡◌}
+use Rattle.chan_walk.specs.VerdictBytes.{IsChained, at_once, further, IsVerdictByte, SafeSinceAsked}
+use Rattle.chan_walk.specs.VerdictBytes.{with_storage, YesByGuarded, YesStays}
 use Rattle.chan_walk.proofs.Theory.Chains.{part_is_no_transfer}
-use Rattle.chan_walk.proofs.Algorithms.Counted.{carries_at, same_verdict}
+use Rattle.chan_walk.proofs.Algorithms.VerdictBytes.{carries_at, same_verdict}
 use Rattle.chan_walk.proofs.Machine.Exact.{sparing_less}
 use Rattle.chan_walk.proofs.Theory.Transport.{same_guarded}
 use Rattle.chan_walk.proofs.Theory.Faults.{yes_clear}
@@ -23,7 +23,8 @@ module _ (j : Job) (v : IsVerdict j Yes) where
     address : place.address ≡ a
     outward : kind_of place.entered (ccw_of j place) ≡ Outward
 
-  one_on : {from to : ℕ} → Out from → is_part (storage_of j) from ≡ true → chains_data (ccw (storage_of j) from) ≡ true → Leads (storage_of j) from to → Out to
+  one_on : {from to : ℕ} → Out from → is_part (storage_of j) from ≡ true → chains_data (ccw (storage_of j) from) ≡ true → ChainLeads (storage_of j) from to
+      → Out to
   one_on {from = from} {to = to} here part cd lead = go lead
     where
       other : is_transfer (ccw_of j here.place) ≡ false
@@ -37,7 +38,7 @@ module _ (j : Job) (v : IsVerdict j Yes) where
           onward j v here.place next here.reached
           (by_data other (subst (λ n. chains_data (ccw (storage_of j) n) ≡ true) (sym here.address) cd) (ap chained here.outward))
 
-      go : Leads (storage_of j) from to → Out to
+      go : ChainLeads (storage_of j) from to → Out to
       go (inl e) = record { place = next; reached = reached; address = ap (λ n. n + 8) here.address ∙ sym e; outward = refl }
       go (inr e) =
           let same : ccw (storage_of j) (from + 8) ≡ ccw_of j next = ap (λ n. ccw (storage_of j) (n + 8)) (sym here.address) in
@@ -54,17 +55,17 @@ module _ (j : Job) (v : IsVerdict j Yes) where
   along seek r b at_once = record { place = seek; reached = r; address = refl; outward = fresh_out seek (ccw_of j seek) b }
   along seek r b (further c part cd lead) = one_on (along seek r b c) part cd lead
 
-  pub counted_is_guarded : (b : ℕ) → IsCounted j b → IsGuarded j b
-  counted_is_guarded b h = search (rules, along, yes_clear)
+  pub verdict_byte_is_guarded : (b : ℕ) → IsVerdictByte j b → IsGuarded j b
+  verdict_byte_is_guarded b h = search (rules, along, yes_clear)
 
 pub yes_by_guarded : YesByGuarded
-yes_by_guarded j t v h = ((same_verdict j t (record { same_length = h.same_length; same = λ b c. h.same b (counted_is_guarded j v b c) })).1 Yes).0 v
+yes_by_guarded j t v h = ((same_verdict j t (record { same_length = h.same_length; same = λ b c. h.same b (verdict_byte_is_guarded j v b c) })).1 Yes).0 v
 
 pub safe_since_asked : SafeSinceAsked
 safe_since_asked j t mask v h =
     let k = with_storage j t in
-    let counted : IsSameIn (IsCounted j) (storage_of j) (bytes_held t) =
-    record { same_length = h.same_length; same = λ b c. h.same b (counted_is_guarded j v b c) } in
+    let counted : IsSameIn (IsVerdictByte j) (storage_of j) (bytes_held t) =
+    record { same_length = h.same_length; same = λ b c. h.same b (verdict_byte_is_guarded j v b c) } in
     let among = yes_is_safe_among k mask (yes_by_guarded j t v h) in
     let spared = sparing_less (IsGuarded j) (IsGuarded k) (λ b g. (same_guarded j k refl (carries_at j t counted) b).1 g) k in
     (λ run r. among.0 run (spared run r), λ used run b r u s. among.1 used run b (spared used r) u (spared run s))

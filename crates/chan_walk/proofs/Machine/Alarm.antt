@@ -1,22 +1,22 @@
 -- No false alarm: from each reason to a run that shows it.
 use Rattle.chan_walk.proofs.Names.{allows, and_parts, ap, argument, arith, At, begins_recalibrate}
-use Rattle.chan_walk.proofs.Names.{begins_seek, begins_set_mask, byte, ccw_of, check, checked}
-use Rattle.chan_walk.proofs.Names.{covered, Ended, ends, Event, extents_of, false, fetch_of, Fields}
-use Rattle.chan_walk.proofs.Names.{goes_out, has_cylinder, HasArgument, HasFault, home, inhibits}
-use Rattle.chan_walk.proofs.Names.{inl, inr, is_at_least, is_counted, is_fresh, is_known, is_none}
-use Rattle.chan_walk.proofs.Names.{is_refused, is_transfer, IsArgumentByte, IsCcwByte, IsChain}
-use Rattle.chan_walk.proofs.Names.{IsClear, IsReachable, IsRun, Job, kind_of, length, List, Moment}
-use Rattle.chan_walk.proofs.Names.{None, not, Offends, Option, Outward, Place, Reason, refl, rules}
-use Rattle.chan_walk.proofs.Names.{SeekOutside, Some, Stage, Step, storage_of, store_of, stores}
-use Rattle.chan_walk.proofs.Names.{StoresOver, subst, sym, table_of_every_ccw}
-use Rattle.chan_walk.proofs.Names.{table_of_non_transfer, table_of_own, Takes, true, UsesIn}
-use Rattle.chan_walk.proofs.Names.{WeakensMask, ℕ, [], ◌&&◌, ◌+◌, ◌<◌, ◌∷◌, ◌≡◌, ◌⊎◌}
+use Rattle.chan_walk.proofs.Names.{begins_seek, begins_set_mask, byte, ccw_of, program_check}
+use Rattle.chan_walk.proofs.Names.{checked, covered, Ended, ends, Event, extents_of, false}
+use Rattle.chan_walk.proofs.Names.{fetch_of, Fields, goes_out, has_cylinder, HasArgument, HasFault}
+use Rattle.chan_walk.proofs.Names.{home, inhibits, inl, inr, is_at_least, has_count, is_fresh}
+use Rattle.chan_walk.proofs.Names.{is_known, is_none, is_refused, is_transfer, IsArgumentByte}
+use Rattle.chan_walk.proofs.Names.{IsCcwByte, IsChain, IsClear, IsReachable, IsRun, Job, kind_of}
+use Rattle.chan_walk.proofs.Names.{length, List, Moment, None, not, Offends, Option, Outward, Place}
+use Rattle.chan_walk.proofs.Names.{Reason, refl, rules, SeekOutside, Some, Stage, Step, storage_of}
+use Rattle.chan_walk.proofs.Names.{store_of, stores, StoresOver, subst, sym, table_of_every_ccw}
+use Rattle.chan_walk.proofs.Names.{table_of_non_transfer, table_of_own, TakesArgumentByte, true}
+use Rattle.chan_walk.proofs.Names.{UsesIn, WeakensMask, ℕ, [], ◌&&◌, ◌+◌, ◌<◌, ◌∷◌, ◌≡◌, ◌⊎◌}
 use Rattle.std.proofs.lemmas.Bool.{or_cases, not-true, ltb-true}
 use Rattle.std.proofs.lemmas.List.FromFn.{length-map-range_with_len}
 use Rattle.chan_walk.specs.declared.reason.Reason.TheVariants.{StoreNotLent, FetchNotLent}
 use Rattle.chan_walk.specs.declared.reason.Reason.TheVariants.{ShortSeek}
-use Rattle.chan_walk.specs.Alarm.{IsProper, first_cylinder, ShowsInStep, ShowsCheck}
-use Rattle.chan_walk.specs.Alarm.{ChangesUsed, Shows, EachPathShows, NoFalseAlarm}
+use Rattle.chan_walk.specs.Alarm.{IsProper, first_cylinder, ShowsInStep, ShowsProgramCheck}
+use Rattle.chan_walk.specs.Alarm.{ChangesUsed, ShowsReason, EachPathShows, NoFalseAlarm}
 use Rattle.chan_walk.specs.Fault.{fetches}
 use Rattle.chan_walk.specs.Guarded.{IsSeekByte, IsMaskByte}
 use Rattle.chan_walk.specs.Machine.{unknown}
@@ -60,8 +60,9 @@ mask_out : (p : Place) (c : Fields) → begins_set_mask p c ≡ true → kind_of
 mask_out p c h = search (rules, mask_is_outward)
 
 -- so that where it begins and no program check applies, it moves a byte
-moves_byte : (j : Job) (p : Place) → check (storage_of j) p ≡ None → is_transfer (ccw_of j p) ≡ false → begins_set_mask p (ccw_of j p) ≡ true → 0 < bytes_at j p
-unfolding is_counted
+moves_byte : (j : Job) (p : Place) → program_check (storage_of j) p ≡ None → is_transfer (ccw_of j p) ≡ false → begins_set_mask p (ccw_of j p) ≡ true
+    → 0 < bytes_at j p
+unfolding has_count
 moves_byte j p e t b =
     let whole : bytes_at j p ≡ (ccw_of j p).count = ap (λ k. full_count k (ccw_of j p)) (mask_out p (ccw_of j p) b) in
     let some : 0 < (ccw_of j p).count = ltb-true 0 _ (passed (storage_of j) p e t).counted in
@@ -79,12 +80,12 @@ module _ (j : Job) (proper : IsProper j) where
   EndsAt p m =
       Carried j start p (run_to p m).gathered (seek_at j start p (run_to p m).gathered (few_at j p (run_to p m).gathered (run_to p m).taking)).es [] Ended
 
-  ends_at : (p : Place) (m : IsReachable j p) → check (storage_of j) p ≡ None → is_transfer (ccw_of j p) ≡ false → Known j p → EndsAt p m
+  ends_at : (p : Place) (m : IsReachable j p) → program_check (storage_of j) p ≡ None → is_transfer (ccw_of j p) ≡ false → Known j p → EndsAt p m
   ends_at p m e t known = let r = run_to p m in carry_out j proper.1 start p r.gathered (few_at j p r.gathered r.taking) e t known tt ends
 
   -- the seek at p has the chain l
   to_the_end : (p : Place) (m : IsReachable j p) (l : List ℕ) → begins_seek p (ccw_of j p) ≡ true
-      → check (storage_of j) p ≡ None → is_transfer (ccw_of j p) ≡ false → Known j p → IsChain (storage_of j) 6 p.address l
+      → program_check (storage_of j) p ≡ None → is_transfer (ccw_of j p) ≡ false → Known j p → IsChain (storage_of j) 6 p.address l
       → Finished j proper.1 start p (run_to p m).gathered (run_to p m).events (run_to p m).run m.0 (run_to p m).places (run_to p m).quiet l
   to_the_end p m l b e t known k =
       let r = run_to p m in
@@ -92,7 +93,7 @@ module _ (j : Job) (proper : IsProper j) where
       (record { past = r.run; upto = []; events = r.events; is_run = r.is_run; split = refl; goes_on = tt })
       (ready_fresh j proper.1 p r.gathered b e t known) (begin (storage_of j) l p k) (omega arith) (λ b h. absurd h)
 
-  shows_check : (p : Place) (m : IsReachable j p) (r : Reason) → check (storage_of j) p ≡ Some r → Shows j p m.0 r
+  shows_check : (p : Place) (m : IsReachable j p) (r : Reason) → program_check (storage_of j) p ≡ Some r → ShowsReason j p m.0 r
   shows_check p m r h =
       check_case P (storage_of j) p r (each_case P (table_of_every_ccw n p c) (go, (go, (go, tt))))
       (each_case P (table_of_non_transfer n p c) (go, (go, (go, (go, tt))))) h h
@@ -104,15 +105,16 @@ module _ (j : Job) (proper : IsProper j) where
       c = ccw_of j p
 
       P : Reason → Type 0
-      P t = check (storage_of j) p ≡ Some t → Shows j p m.0 t
+      P t = program_check (storage_of j) p ≡ Some t → ShowsReason j p m.0 t
 
-      go : {t : Reason} → check (storage_of j) p ≡ Some t → ShowsCheck j p m.0 t
+      go : {t : Reason} → program_check (storage_of j) p ≡ Some t → ShowsProgramCheck j p m.0 t
       go e = show_next (run_to p m) (checked e) refl
 
   -- an own fault is shown
-  pub shows_fault : (p : Place) (m : IsReachable j p) (r : Reason) → HasFault j p (Some r) → Shows j p m.0 r
+  pub shows_fault : (p : Place) (m : IsReachable j p) (r : Reason) → HasFault j p (Some r) → ShowsReason j p m.0 r
   shows_fault p m r f =
-      table_case (Shows j p m.0) (check (storage_of j) p) (is_transfer (ccw_of j p)) (table_of_own j p (ccw_of j p) f.0) r (shows_check p m r) own f.2
+      table_case (ShowsReason j p m.0) (program_check (storage_of j) p) (is_transfer (ccw_of j p)) (table_of_own j p (ccw_of j p) f.0) r
+      (shows_check p m r) own f.2
     where
       c : Fields
       c = ccw_of j p
@@ -120,7 +122,7 @@ module _ (j : Job) (proper : IsProper j) where
       R : Runs j start p m.0
       R = run_to p m
 
-      store_at : EndsAt p m → (stores p c && not (covered (store_of j) c.address c.count)) ≡ true → Shows j p m.0 StoreNotLent
+      store_at : EndsAt p m → (stores p c && not (covered (store_of j) c.address c.count)) ≡ true → ShowsReason j p m.0 StoreNotLent
       store_at en b =
           let a = and_parts (stores p c) (not (covered (store_of j) c.address c.count)) b in
           let s = stores_parts p c a.0 in
@@ -129,23 +131,24 @@ module _ (j : Job) (proper : IsProper j) where
           let lt : u.0 < c.address + length (there j c) = omega (arith, u.2, n) in
           show_next R en.step (c.address, there j c, u.0, en.stores s.1 s.2, u.1, lt, u.3)
 
-      fetch_at : EndsAt p m → (fetches p c && not (covered (fetch_of j) c.address c.count)) ≡ true → Shows j p m.0 FetchNotLent
+      fetch_at : EndsAt p m → (fetches p c && not (covered (fetch_of j) c.address c.count)) ≡ true → ShowsReason j p m.0 FetchNotLent
       fetch_at en b =
           let a = and_parts (fetches p c) (not (covered (fetch_of j) c.address c.count)) b in
           let a1 = and_parts (not (is_transfer c)) (goes_out (kind_of p.entered c)) a.0 in
           let u = uncovered (fetch_of j) c.address c.count (not-true _ a.1) in
           show_next R en.step (c.address, c.count, u.0, en.fetches a1.1, u.1, u.2, u.3)
 
-      short_at : check (storage_of j) p ≡ None → is_transfer c ≡ false → Known j p → (begins_seek p c && is_none f.0) ≡ true → Shows j p m.0 ShortSeek
+      short_at : program_check (storage_of j) p ≡ None → is_transfer c ≡ false → Known j p → (begins_seek p c && is_none f.0) ≡ true
+          → ShowsReason j p m.0 ShortSeek
       short_at e t known b =
           let a = and_parts (begins_seek p c) (is_none f.0) b in
           stop j proper.1 start p R.gathered R.events R.run m.0 R.places R.quiet e a.0 6 p R.gathered []
           (record { past = R.run; upto = []; events = R.events; is_run = R.is_run; split = refl; goes_on = tt })
           (ready_fresh j proper.1 p R.gathered a.0 e t known) (omega arith) (missing (storage_of j) p.address f.0 f.1 a.1)
 
-      outside_at : check (storage_of j) p ≡ None → is_transfer c ≡ false → Known j p → EndsAt p m
+      outside_at : program_check (storage_of j) p ≡ None → is_transfer c ≡ false → Known j p → EndsAt p m
           → ((begins_seek p c && is_refused j f.0) ≡ true) ⊎ ((begins_recalibrate p c && not (has_cylinder (extents_of j) 0)) ≡ true)
-          → Shows j p m.0 SeekOutside
+          → ShowsReason j p m.0 SeekOutside
       outside_at e t known en (inl b) =
           let a = and_parts (begins_seek p c) (is_refused j f.0) b in
           let k = refused j p.address f.0 f.1 a.1 in
@@ -175,14 +178,14 @@ module _ (j : Job) (proper : IsProper j) where
             shows = ((and_parts (is_fresh p.entered) _ a.0).0, home, en.home a.0, home_refused j (not-true _ a.1));
           }
 
-      weakens_at : check (storage_of j) p ≡ None → is_transfer c ≡ false → EndsAt p m
-          → (begins_set_mask p c && not (is_at_least (byte (storage_of j) c.address) j.mask)) ≡ true → Shows j p m.0 WeakensMask
+      weakens_at : program_check (storage_of j) p ≡ None → is_transfer c ≡ false → EndsAt p m
+          → (begins_set_mask p c && not (is_at_least (byte (storage_of j) c.address) j.mask)) ≡ true → ShowsReason j p m.0 WeakensMask
       weakens_at e t en b =
           let a = and_parts (begins_set_mask p c) (not (is_at_least (byte (storage_of j) c.address) j.mask)) b in
           show_next R en.step
           ((and_parts (is_fresh p.entered) _ a.0).0, c.address, byte (storage_of j) c.address, en.masks a.0 (moves_byte j p e t a.0), not-true _ a.1)
 
-      own : check (storage_of j) p ≡ None → is_transfer c ≡ false → Cases (Shows j p m.0) (table_of_own j p c f.0)
+      own : program_check (storage_of j) p ≡ None → is_transfer c ≡ false → Cases (ShowsReason j p m.0) (table_of_own j p c f.0)
       own e t = (
         (λ b.
             let a = and_parts (is_fresh p.entered) (not (is_known c.command)) b in
@@ -243,15 +246,15 @@ module _ (j : Job) (proper : IsProper j) where
             inl (subst (UsesIn en.es) s.at (mask_is_used en.es _ _ (en.masks s.sets (moves_byte j u.place e t s.sets)))),
           )
 
-      go : Takes (storage_of j) u.place b → (used : List Moment) × IsRun j used × UsesInArgument used b
+      go : TakesArgumentByte (storage_of j) u.place b → (used : List Moment) × IsRun j used × UsesInArgument used b
       go (inl s) = of_seek s
       go (inr s) = of_mask s
 
   -- an offence is shown
-  pub shows : (p : Place) (m : IsReachable j p) (r : Reason) → Offends j p r → Shows j p m.0 r
+  pub shows : (p : Place) (m : IsReachable j p) (r : Reason) → Offends j p r → ShowsReason j p m.0 r
   shows p m r (inl f) = shows_fault p m r f
-  shows p m r (inr (clear, inl o)) = subst (Shows j p m.0) (sym o.0) (shows_change p m (clear p m) _ UsesInCcw ccw_used o.1)
-  shows p m r (inr (clear, inr o)) = subst (Shows j p m.0) (sym o.0) (shows_change p m (clear p m) _ UsesInArgument argument_used o.1)
+  shows p m r (inr (clear, inl o)) = subst (ShowsReason j p m.0) (sym o.0) (shows_change p m (clear p m) _ UsesInCcw ccw_used o.1)
+  shows p m r (inr (clear, inr o)) = subst (ShowsReason j p m.0) (sym o.0) (shows_change p m (clear p m) _ UsesInArgument argument_used o.1)
 
 pub each_path_shows : EachPathShows
 each_path_shows j p ps r proper path offends = shows j proper p (ps, path) r offends

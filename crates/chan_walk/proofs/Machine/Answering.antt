@@ -1,6 +1,6 @@
 -- What the laws say of a job's verdict.
-use Rattle.chan_walk.proofs.Names.{Agrees, BTreeMap, IsVerdict, Job, List, nat_cmp, places_of_looks}
-use Rattle.chan_walk.proofs.Names.{refl, Seen, subst, Yes, ℕ, ◌≡◌}
+use Rattle.chan_walk.proofs.Names.{MarksAgree, BTreeMap, IsVerdict, Job, List, nat_cmp}
+use Rattle.chan_walk.proofs.Names.{places_of_looks, refl, Seen, subst, Yes, ℕ, ◌≡◌}
 use Rattle.chan_walk.specs.declared.verdict.Verdict.{Verdict}
 use Rattle.chan_walk.specs.declared.verdict.Verdict.TheVariants.{No}
 use Rattle.chan_walk.specs.Alarm.{IsProper, NoFalseAlarm}
@@ -30,7 +30,7 @@ only_yes j (No a r) h y = absurd (y h.0.place r h.0.reached h.0.offends)
 
 -- a walk finds no more places than the job's limit
 pub at_most : (j : Job) (m : BTreeMap ℕ ℕ) (ls : List Seen) (fs : List ℕ)
-    → tree.IsOrdered nat_cmp m → Agrees m (places_of_looks ls) → HasFound j ls fs → HasAtMost j j.limit
+    → tree.IsOrdered nat_cmp m → MarksAgree m (places_of_looks ls) → HasFound j ls fs → HasAtMost j j.limit
 at_most j m ls fs o agrees f =
     let l : ListsMarks m (places_of m.entries) = record { ordered = o; listed = refl } in
     record {

@@ -1,9 +1,10 @@
 -- A step that changes each byte of the range that it stores over.
 use Rattle.chan_walk.proofs.Names.{AllByRecursion, ap, arith, begins_recalibrate, begins_set_mask}
-use Rattle.chan_walk.proofs.Names.{byte, carried, ccw_of, Ended, ends, Event, Gathered, Has, inl, inr}
-use Rattle.chan_walk.proofs.Names.{IsClear, Job, length, List, map, Moves, Place, range_with_len}
-use Rattle.chan_walk.proofs.Names.{refl, rules, Step, storage_of, stored, stores, subst, suc, sym, true}
-use Rattle.chan_walk.proofs.Names.{under_way, zero, ℕ, [], ◌++◌, ◌+◌, ◌<◌, ◌∙◌, ◌∷◌, ◌≡◌, ◌≤◌, ◌⊎◌}
+use Rattle.chan_walk.proofs.Names.{byte, carried, ccw_of, Ended, ends, Event, Gathered, Has, inl}
+use Rattle.chan_walk.proofs.Names.{inr, IsClear, Job, length, List, map, MovesData, Place}
+use Rattle.chan_walk.proofs.Names.{range_with_len, refl, rules, Step, storage_of, stored, stores}
+use Rattle.chan_walk.proofs.Names.{subst, suc, sym, true, under_way, zero, ℕ, [], ◌++◌, ◌+◌, ◌<◌}
+use Rattle.chan_walk.proofs.Names.{◌∙◌, ◌∷◌, ◌≡◌, ◌≤◌, ◌⊎◌}
 use Rattle.std.proofs.lemmas.List.FromFn.{length-map-range_with_len}
 use Rattle.chan_walk.specs.Machine.{Store, IsStored, command_event}
 use Rattle.chan_walk.proofs.Theory.Checks.{passed, data_fits}
@@ -94,8 +95,8 @@ rewrite j y p g few f o =
       others = λ b o. put_out (storage_of j) c.address c.count b (subst (λ n. (b < c.address) ⊎ (c.address + n ≤ b)) len o);
     } in
     let whole : bytes_at j p ≡ c.count = ap (λ k. full_count k c) inward in
-    let mv : Moves c (bytes_at j p) (storage_of j) k (Store c.address there ∷ []) s =
-    subst (λ z. Moves c (bytes_at j p) (storage_of j) z (Store c.address there ∷ []) s) (sym inward)
+    let mv : MovesData c (bytes_at j p) (storage_of j) k (Store c.address there ∷ []) s =
+    subst (λ z. MovesData c (bytes_at j p) (storage_of j) z (Store c.address there ∷ []) s) (sym inward)
     (stored a.2 (len ∙ sym whole) (all_small (storage_of j) (range_with_len c.address c.count)) is) in
     let sk = seek_at j y p g few in
     let hm = can_home j y (begins_recalibrate p c) in

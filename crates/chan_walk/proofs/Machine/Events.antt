@@ -1,7 +1,7 @@
 -- What the events of a step show, part by part.
 use Rattle.chan_walk.proofs.Names.{Command, Event, Has, inl, inr, List, rules, Seek, UsesIn, ℕ, []}
 use Rattle.chan_walk.proofs.Names.{◌++◌, ◌∷◌, ◌⊎◌}
-use Rattle.chan_walk.specs.Alarm.{NoSeek}
+use Rattle.chan_walk.specs.Alarm.{HasNoWholeArgument}
 use Rattle.chan_walk.specs.Machine.{Store, Fetch, Gather, SetMask}
 use Rattle.chan_walk.proofs.Theory.Lists.{has_cases, has_left, has_right}
 
@@ -52,7 +52,7 @@ mask_is_used (Gather from ∷ es) a x (inr h) = inr (mask_is_used es a x h)
 mask_is_used (Seek z ∷ es) a x (inl h) = absurd (cc)
 mask_is_used (Seek z ∷ es) a x (inr h) = mask_is_used es a x h
 
-pub no_seek_append : (xs ys : List Event) → NoSeek xs → NoSeek ys → NoSeek (xs ++ ys)
+pub no_seek_append : (xs ys : List Event) → HasNoWholeArgument xs → HasNoWholeArgument ys → HasNoWholeArgument (xs ++ ys)
 no_seek_append xs ys h k x u = search (rules, has_cases)
 
 -- the six lists of a step's events on end: what holds of each holds of all, if it goes over to two on end

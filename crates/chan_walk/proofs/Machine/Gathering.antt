@@ -2,14 +2,14 @@
 use Rattle.chan_walk.proofs.Names.{ap, append-nil, append_assoc, argument, argument_addresses}
 use Rattle.chan_walk.proofs.Names.{arith, both_ways, byte, ccw, ChainOut, chains_data, false}
 use Rattle.chan_walk.proofs.Names.{Fields, Has, inl, inr, is_part, is_transfer, IsChain, IsGathered}
-use Rattle.chan_walk.proofs.Names.{Leads, length, length-append, length-map, List, map, min, Place}
-use Rattle.chan_walk.proofs.Names.{range_with_len, refl, rules, straight_to, subst, sym, take}
-use Rattle.chan_walk.proofs.Names.{taken, transferred_to, true, with_taken, ℕ, [], ◌++◌, ◌+◌, ◌-◌}
-use Rattle.chan_walk.proofs.Names.{◌<◌, ◌∙◌, ◌∷◌, ◌≡◌, ◌≤◌}
+use Rattle.chan_walk.proofs.Names.{ChainLeads, length, length-append, length-map, List, map, min}
+use Rattle.chan_walk.proofs.Names.{Place, range_with_len, refl, rules, straight_to, subst, sym}
+use Rattle.chan_walk.proofs.Names.{take, taken, transferred_to, true, with_taken, ℕ, [], ◌++◌, ◌+◌}
+use Rattle.chan_walk.proofs.Names.{◌-◌, ◌<◌, ◌∙◌, ◌∷◌, ◌≡◌, ◌≤◌}
 use Rattle.std.proofs.lemmas.List.{map-append}
 use Rattle.std.proofs.lemmas.List.FromFn.{length-range_with_len}
 use Rattle.chan_walk.specs.Argument.{data_addresses, joined}
-use Rattle.chan_walk.specs.Headline.{ComesTo}
+use Rattle.chan_walk.specs.Headline.{ChainComesTo}
 use Rattle.chan_walk.proofs.Theory.Chains.{part_is_no_transfer, chain_begins_with_part, chain_tail}
 use Rattle.chan_walk.proofs.Theory.Lists.{has_left, has_right, range_split, take_front}
 
@@ -83,7 +83,7 @@ module _ (s l : List ℕ) where
       must : (rest : List ℕ) → IsChain s (6 - length before) a (d ∷ rest) → length (with_taken s c m x) < 6 → m ≡ c.count → chains_data c ≡ true
       must rest k h e = search (rules, not_last)
 
-      lead : (y : ℕ) → Leads s a y → ComesTo s (straight_to (p.address + 8) ChainOut) y
+      lead : (y : ℕ) → ChainLeads s a y → ChainComesTo s (straight_to (p.address + 8) ChainOut) y
       lead y h = search rules
 
       further : (rest : List ℕ) → IsChain s (6 - length before) a (d ∷ rest) → before ++ joined s (d ∷ rest) ≡ joined s l → length (with_taken s c m x) < 6
@@ -99,7 +99,7 @@ module _ (s l : List ℕ) where
               before = after;
               rest = y ∷ z;
               at = y;
-              leads = lead y (subst (λ b. Leads s b y) k.begins k.linked.2);
+              leads = lead y (subst (λ b. ChainLeads s b y) k.begins k.linked.2);
               chain = subst (λ b. IsChain s b y (y ∷ z)) n (chain_tail s (6 - length before) a d y z k);
               all = append_assoc before (taken c m x) (joined s (y ∷ z)) ∙ ap (λ b. before ++ (b ++ joined s (y ∷ z))) same ∙ all;
               few = w;
@@ -129,7 +129,7 @@ module _ (s l : List ℕ) where
     read = g.read;
   }
     where
-      go : ComesTo s p g.at → (ccw s p.address).address ≡ g.at
+      go : ChainComesTo s p g.at → (ccw s p.address).address ≡ g.at
       go (inl e) = absurd (both_ways _ (part_is_no_transfer s p.address (subst (λ a. is_part s a ≡ true) (sym e) (chain_begins_with_part s _ _ _ g.chain))) t)
       go (inr e) = e.3
 

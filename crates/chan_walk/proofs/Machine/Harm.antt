@@ -10,11 +10,11 @@ use Rattle.chan_walk.specs.declared.reason.Reason.TheVariants.{BadFormat, ZeroCo
 use Rattle.chan_walk.specs.declared.reason.Reason.TheVariants.{NotInTable, Inhibited, StoreNotLent}
 use Rattle.chan_walk.specs.declared.reason.Reason.TheVariants.{FetchNotLent, ShortSeek, ChangesCcw}
 use Rattle.chan_walk.specs.declared.reason.Reason.TheVariants.{ChangesArgument}
-use Rattle.chan_walk.specs.Alarm.{ChangesUsed, ShowsInOperation, ShowsInStep}
-use Rattle.chan_walk.specs.Alarm.{Shows}
-use Rattle.chan_walk.specs.Harm.{Breaks, BreaksAt, HarmlessIsSafe, IsUnsteady}
+use Rattle.chan_walk.specs.Alarm.{ChangesUsed, ShowsInOperation, ShowsInStep, ShowsReason}
+use Rattle.chan_walk.specs.Harm.{BreaksHeadline, BreaksAt, HarmlessIsSafe, IsUnsteady}
 use Rattle.chan_walk.specs.Harm.{HasUnsafeEvent, IsHarm, IsStopped, MayHarm, NoIsHarm, ShownBreaks}
-use Rattle.chan_walk.specs.Headline.{Holds, IsSafe, IsSafeEvent, IsSafeMoment, IsSteady, IsUnchecked}
+use Rattle.chan_walk.specs.Headline.{HoldsInitialByte, IsSafe, IsSafeEvent, IsSafeMoment, IsSteady}
+use Rattle.chan_walk.specs.Headline.{MeetsNoProgramCheck}
 use Rattle.chan_walk.specs.Machine.{Fetch, Gather, SetMask, Store}
 use Rattle.chan_walk.specs.Runs.{Uses, UsesInArgument, UsesInCcw}
 use Rattle.chan_walk.proofs.Machine.Alarm.{no_false_alarm}
@@ -22,23 +22,23 @@ use Rattle.chan_walk.proofs.Machine.Alarm.{no_false_alarm}
 -- ---- each reason breaks a promise
 
 module _ (j : Job) (p : Place) (ps : List Place) where
-  in_step : {P : Moment → Type 0} (r : Reason) → ((m : Moment) → P m → Breaks j r m) → ShowsInStep j p ps P → BreaksAt j p ps r
+  in_step : {P : Moment → Type 0} (r : Reason) → ((m : Moment) → P m → BreaksHeadline j r m) → ShowsInStep j p ps P → BreaksAt j p ps r
   in_step r f s = record { run = s.at ∷ s.run; more = []; last = s.next; is_run = s.is_run; over = s.over; breaks = f s.next s.shows }
 
-  in_operation : {P : Moment → Moment → Type 0} (r : Reason) → ((at m : Moment) → P at m → Breaks j r m) → ShowsInOperation j p ps P → BreaksAt j p ps r
+  in_operation : {P : Moment → Moment → Type 0} (r : Reason) → ((at m : Moment) → P at m → BreaksHeadline j r m) → ShowsInOperation j p ps P → BreaksAt j p ps r
   in_operation r f s = record { run = s.at ∷ s.run; more = s.more; last = s.next; is_run = s.is_run; over = s.over; breaks = f s.at s.next s.shows }
 
   stopped : (r : Reason) (m : Moment) → m.stage ≡ Checked r → IsStopped m
-  stopped r m e u = subst IsUnchecked e u
+  stopped r m e u = subst MeetsNoProgramCheck e u
 
   changed : (Q : List Moment → ℕ → Type 0) → ((used : List Moment) (b : ℕ) → Q used b → Uses used b) → (m : Moment) → ChangesUsed j Q m → IsUnsteady j m
   changed Q to m w = let u = w.6 in (w.2, (u.1, u.2, to u.1 w.2 u.3), u.0)
 
-  short : (m : Moment) → Has m.events (Seek None) ⊎ ((r : Reason) × (m.stage ≡ Checked r)) → Breaks j ShortSeek m
+  short : (m : Moment) → Has m.events (Seek None) ⊎ ((r : Reason) × (m.stage ≡ Checked r)) → BreaksHeadline j ShortSeek m
   short m (inl h) = inl (Seek None, h, λ s. s)
   short m (inr h) = inr (stopped h.0 m h.1)
 
-  breaks : (r : Reason) → Shows j p ps r → BreaksAt j p ps r
+  breaks : (r : Reason) → ShowsReason j p ps r → BreaksAt j p ps r
   breaks Misaligned = in_step _ (stopped _)
   breaks OutsideStorage = in_step _ (stopped _)
   breaks TransferNotAllowed = in_step _ (stopped _)
@@ -77,7 +77,7 @@ module _ (j : Job) (m : Moment) where
   by_short (inl h) = by_event h
   by_short (inr h) = by_stop h
 
-  is_harm : (r : Reason) → Breaks j r m → IsHarm j m
+  is_harm : (r : Reason) → BreaksHeadline j r m → IsHarm j m
   is_harm Misaligned h = by_stop h
   is_harm OutsideStorage h = by_stop h
   is_harm TransferNotAllowed h = by_stop h
@@ -95,7 +95,7 @@ module _ (j : Job) (m : Moment) where
   is_harm ChangesArgument h = inr h
   is_harm WeakensMask h = by_event h
 
-pub shown_harms : (j : Job) (p : Place) (ps : List Place) (r : Reason) → Shows j p ps r → MayHarm j
+pub shown_harms : (j : Job) (p : Place) (ps : List Place) (r : Reason) → ShowsReason j p ps r → MayHarm j
 shown_harms j p ps r s = let b = breaks j p ps r s in (b.last ∷ (b.more ++ b.run), b.is_run, (b.last, inl refl, is_harm j b.last r b.breaks))
 
 pub no_is_harm : NoIsHarm
@@ -117,7 +117,7 @@ harmless j safe steady h = go h.2.2
   where
     go : IsHarm j h.2.0 → ⊥
     go (inl n) = n (at_has (IsSafeMoment j) h.0 h.2.0 (safe h.0 h.1) h.2.1)
-    go (inr c) = c.2 (at_has (Holds j c.0) h.0 h.2.0 (steady c.1.0 h.0 c.0 c.1.1 c.1.2 h.1) h.2.1)
+    go (inr c) = c.2 (at_has (HoldsInitialByte j c.0) h.0 h.2.0 (steady c.1.0 h.0 c.0 c.1.1 c.1.2 h.1) h.2.1)
 
 abbrev Stable : Type 0 → Type 0
 Stable P = ((P → ⊥) → ⊥) → P
@@ -135,7 +135,7 @@ stable_number a b n = go (cases_eq a b)
     go (inl e) = e
     go (inr e) = absurd (n e)
 
-stable_stage : (st : Stage) → Stable (IsUnchecked st)
+stable_stage : (st : Stage) → Stable (MeetsNoProgramCheck st)
 stable_stage (At p g) n = tt
 stable_stage Ended n = tt
 stable_stage (Checked r) n = n (λ h. h)

@@ -1,17 +1,17 @@
 -- The operation of a seek, carried on to its end: to a whole argument, or to what stops it before.
 use Rattle.chan_walk.proofs.Names.{AllByRecursion, and_parts, ap, argument, argument_addresses}
 use Rattle.chan_walk.proofs.Names.{arith, At, begins_recalibrate, begins_seek, cases_Bool, cases_lt}
-use Rattle.chan_walk.proofs.Names.{ccw, ccw_of, chained, ChainOut, chains_data, check, Checked}
-use Rattle.chan_walk.proofs.Names.{checked, Continues, Ended, ends, Event, false, Fields, Gathered}
-use Rattle.chan_walk.proofs.Names.{Has, inl, inr, is_fresh, is_part, is_transfer, IsChain}
-use Rattle.chan_walk.proofs.Names.{IsGathered, IsRun, Job, Leads, length, List, min, Moment, None}
-use Rattle.chan_walk.proofs.Names.{Option, Outward, Place, Reason, refl, rules, Seek, Some, Stage}
-use Rattle.chan_walk.proofs.Names.{Step, storage_of, straight_to, subst, suc, sym, taken}
+use Rattle.chan_walk.proofs.Names.{ccw, ccw_of, chained, ChainOut, chains_data, program_check}
+use Rattle.chan_walk.proofs.Names.{Checked, checked, Continues, Ended, ends, Event, false, Fields}
+use Rattle.chan_walk.proofs.Names.{Gathered, Has, inl, inr, is_fresh, is_part, is_transfer, IsChain}
+use Rattle.chan_walk.proofs.Names.{IsGathered, IsRun, Job, ChainLeads, length, List, min, Moment}
+use Rattle.chan_walk.proofs.Names.{None, Option, Outward, Place, Reason, refl, rules, Seek, Some}
+use Rattle.chan_walk.proofs.Names.{Stage, Step, storage_of, straight_to, subst, suc, sym, taken}
 use Rattle.chan_walk.proofs.Names.{transferred, transferred_to, true, under_way, UsesIn, with_taken}
 use Rattle.chan_walk.proofs.Names.{zero, ℕ, [], ◌++◌, ◌+◌, ◌-◌, ◌<◌, ◌∷◌, ◌≡◌, ◌≤◌, ◌⊎◌}
-use Rattle.chan_walk.specs.Alarm.{AreBytes, IsQuiet, IsQuietMoment, ArePlaces, NoSeek}
-use Rattle.chan_walk.specs.Alarm.{StaysInOperation, ShowsInOperation}
-use Rattle.chan_walk.specs.Headline.{ComesTo}
+use Rattle.chan_walk.specs.Alarm.{AreBytes, IsQuietEvent, IsQuietMoment, ArePlaces}
+use Rattle.chan_walk.specs.Alarm.{HasNoWholeArgument, StaysInOperation, ShowsInOperation}
+use Rattle.chan_walk.specs.Headline.{ChainComesTo}
 use Rattle.chan_walk.specs.Machine.{on_data, on_short}
 use Rattle.chan_walk.specs.Runs.{UsesInArgument}
 use Rattle.chan_walk.proofs.Theory.Chains.{part_is_no_transfer, part_counts, chain_begins_with_part}
@@ -35,7 +35,7 @@ module _ (j : Job) (bytes : AreBytes (storage_of j)) where
   pub record Ready (q : Place) (g : Gathered) (x : List ℕ) : Type 0 where
     pub under : under_way q (ccw_of j q) g ≡ Some x
     pub few : length x < 6
-    pub pass : check (storage_of j) q ≡ None
+    pub pass : program_check (storage_of j) q ≡ None
     pub no_transfer : is_transfer (ccw_of j q) ≡ false
     pub known : Known j q
     pub outward : kind_at j q ≡ Outward
@@ -53,9 +53,9 @@ module _ (j : Job) (bytes : AreBytes (storage_of j)) where
         → (es : List Event) × Step (storage_of j) y j.mask q g es (storage_of j) y j.mask Ended × Has es (Seek (Some (all_at q x))) × UsesAll q x es
     on : length (all_at q x) < 6 → chains_data (ccw_of j q) ≡ true
         → (es : List Event) × Step (storage_of j) y j.mask q g es (storage_of j) y j.mask (At (straight_to (q.address + 8) ChainOut) (Some (all_at q x)))
-        × NoSeek es × UsesAll q x es
+        × HasNoWholeArgument es × UsesAll q x es
     short : length (all_at q x) < 6 → chains_data (ccw_of j q) ≡ false
-        → (es : List Event) × Step (storage_of j) y j.mask q g es (storage_of j) y j.mask Ended × Has es (Seek None) × NoSeek es
+        → (es : List Event) × Step (storage_of j) y j.mask q g es (storage_of j) y j.mask Ended × Has es (Seek None) × HasNoWholeArgument es
 
   seek_step : (y : ℕ) (q : Place) (g : Gathered) (x : List ℕ) → Ready q g x → SeekStep y q g x
   seek_step y q g x r = go (subst (λ z. Left j c m z sk.es sk.after) r.under sk.left)
@@ -78,14 +78,14 @@ module _ (j : Job) (bytes : AreBytes (storage_of j)) where
       uses : UsesAll q x sk.es
       uses = subst (λ z. UsesTaken j c m z sk.es) r.under sk.uses
 
-      carry : {went : List Event} {st : Stage} → AllByRecursion (IsQuiet j) went
+      carry : {went : List Event} {st : Stage} → AllByRecursion (IsQuietEvent j) went
           → Continues q c (kind_at j q) m sk.after went st → Carried j y q g sk.es went st
       carry calm goes = carry_out j bytes y q g few r.pass r.no_transfer r.known calm goes
 
-      no_event : NoSeek []
+      no_event : HasNoWholeArgument []
       no_event z h = h
 
-      no_none : NoSeek (Seek None ∷ [])
+      no_none : HasNoWholeArgument (Seek None ∷ [])
       no_none z h = search rules
 
       go : Left j c m (Some x) sk.es sk.after → SeekStep y q g x
@@ -106,11 +106,11 @@ module _ (j : Job) (bytes : AreBytes (storage_of j)) where
       }
 
   ready_out : (q : Place) (x : List ℕ) → length x < 6 → q.entered ≡ ChainOut
-      → check (storage_of j) q ≡ None → is_transfer (ccw_of j q) ≡ false → Ready q (Some x) x
+      → program_check (storage_of j) q ≡ None → is_transfer (ccw_of j q) ≡ false → Ready q (Some x) x
   ready_out q x few o e t = search rules
 
   pub ready_fresh : (p : Place) (g : Gathered) → begins_seek p (ccw_of j p) ≡ true
-      → check (storage_of j) p ≡ None → is_transfer (ccw_of j p) ≡ false → Known j p → Ready p g []
+      → program_check (storage_of j) p ≡ None → is_transfer (ccw_of j p) ≡ false → Known j p → Ready p g []
   ready_fresh p g b e t known = search (rules, fresh_out, seek_no_recalibrate, and_parts)
 
   -- ---- from a moment at p on
@@ -141,7 +141,7 @@ module _ (j : Job) (bytes : AreBytes (storage_of j)) where
     }
 
     abbrev push : {q : Place} {g : Gathered} {es : List Event} (q' : Place) (g' : Gathered) → Going q g
-        → Step (storage_of j) y j.mask q g es (storage_of j) y j.mask (At q' g') → NoSeek es → is_fresh q'.entered ≡ false → Going q' g'
+        → Step (storage_of j) y j.mask q g es (storage_of j) y j.mask (At q' g') → HasNoWholeArgument es → is_fresh q'.entered ≡ false → Going q' g'
     push {q = q} {g = g} {es = es} q' g' go step quiet f = record {
       past = moment y (At q g) go.events ∷ go.past;
       upto = moment y (At q' g') es ∷ go.upto;
@@ -226,7 +226,7 @@ module _ (j : Job) (bytes : AreBytes (storage_of j)) where
             lead a.0 go' (λ b h. pick s.0 b s.3 (has_cases w.before (taken c m x) b (subst (λ z. Has z b) a.1 h))) a.0.leads
           where
             lead : (w' : IsGathered (storage_of j) l next all) (go' : Going next (Some all))
-                → ((b : ℕ) → Has w'.before b → Gathers go' b) → ComesTo (storage_of j) next w'.at → Finished l
+                → ((b : ℕ) → Has w'.before b → Gathers go' b) → ChainComesTo (storage_of j) next w'.at → Finished l
             lead w' go' old' (inl e) =
                 let part = subst (λ a. is_part (storage_of j) a ≡ true) (sym e) (chain_begins_with_part (storage_of j) _ _ _ w'.chain) in
                 rec next go' w'
@@ -247,8 +247,8 @@ module _ (j : Job) (bytes : AreBytes (storage_of j)) where
 
     abbrev pub Stops : Moment → Moment → Type 0
     Stops at m =
-        (check at.storage p ≡ None) × (begins_seek p (ccw at.storage p.address) ≡ true)
-        × NoSeek m.events × (Has m.events (Seek None) ⊎ ((r : Reason) × (m.stage ≡ Checked r)))
+        (program_check at.storage p ≡ None) × (begins_seek p (ccw at.storage p.address) ≡ true)
+        × HasNoWholeArgument m.events × (Has m.events (Seek None) ⊎ ((r : Reason) × (m.stage ≡ Checked r)))
 
     -- where the bytes after a step are too few, and no chain gives the rest, the seek stops later
     abbrev StopsFrom : List ℕ → Type 0
@@ -256,7 +256,7 @@ module _ (j : Job) (bytes : AreBytes (storage_of j)) where
         (q : Place) → Going q (Some x) → Ready q (Some x) x
         → ((l : List ℕ) → IsChain (storage_of j) (6 - length x) q.address l → ⊥) → ShowsInOperation j p ps Stops
 
-    pub stop : check (storage_of j) p ≡ None → begins_seek p (ccw_of j p) ≡ true → (fuel : ℕ) (q : Place) (g : Gathered) (x : List ℕ) → Going q g
+    pub stop : program_check (storage_of j) p ≡ None → begins_seek p (ccw_of j p) ≡ true → (fuel : ℕ) (q : Place) (g : Gathered) (x : List ℕ) → Going q g
         → Ready q g x → 6 - length x ≤ fuel → ((l : List ℕ) → IsChain (storage_of j) (6 - length x) q.address l → ⊥) → ShowsInOperation j p ps Stops
     stop pass b zero q g x go r le no_chain = let few = r.few in absurd (omega arith)
     stop pass b (suc fuel) q g x go r le no_chain =
@@ -291,23 +291,23 @@ module _ (j : Job) (bytes : AreBytes (storage_of j)) where
         next = straight_to (q.address + 8) ChainOut
 
         -- no chain goes on from where this CCW leads
-        none_from : length all < 6 → chains_data c ≡ true → (a : ℕ) → Leads (storage_of j) q.address a
+        none_from : length all < 6 → chains_data c ≡ true → (a : ℕ) → ChainLeads (storage_of j) q.address a
             → (l : List ℕ) → IsChain (storage_of j) (6 - length all) a l → ⊥
         none_from lt cd a to l k =
             no_chain (q.address ∷ l) (chain_cons (storage_of j) _ q.address a l part cd to (omega (arith, len, whole))
             (subst (λ n. IsChain (storage_of j) n a l) (omega (arith, len, whole)) k))
 
-        at_next' : length all < 6 → chains_data c ≡ true → Going next (Some all) → StopsFrom all → (o : Option Reason) → check (storage_of j) next ≡ o
+        at_next' : length all < 6 → chains_data c ≡ true → Going next (Some all) → StopsFrom all → (o : Option Reason) → program_check (storage_of j) next ≡ o
             → (is_transfer (ccw_of j next) ≡ true) ⊎ (is_transfer (ccw_of j next) ≡ false) → ShowsInOperation j p ps Stops
         at_next' lt cd go' rec (Some t) e z = close go' (checked e) (pass, b, (λ z h. h), inr (t, refl))
         at_next' lt cd go' rec None e (inr t) = rec next go' (ready_out next all lt refl e t) (none_from lt cd next.address (inl refl))
         at_next' lt cd go' rec None e (inl t) =
             let q'' : Place = transferred_to (ccw_of j next).address ChainOut in
             let go'' = push q'' (Some all) go' (transferred e t) (λ z h. h) refl in
-            target go'' (check (storage_of j) q'') refl
+            target go'' (program_check (storage_of j) q'') refl
           where
             target : Going (transferred_to (ccw_of j next).address ChainOut) (Some all) → (o : Option Reason)
-                → check (storage_of j) (transferred_to (ccw_of j next).address ChainOut) ≡ o → ShowsInOperation j p ps Stops
+                → program_check (storage_of j) (transferred_to (ccw_of j next).address ChainOut) ≡ o → ShowsInOperation j p ps Stops
             target go'' (Some u) f = close go'' (checked f) (pass, b, (λ z h. h), inr (u, refl))
             target go'' None f =
                 rec _ go'' (ready_out _ all lt refl f (no_second_transfer (storage_of j) _ f refl))
@@ -322,4 +322,4 @@ module _ (j : Job) (bytes : AreBytes (storage_of j)) where
         cases (inl lt) (inr cd) rec = let s = st.short lt cd in close go s.1 (pass, b, s.3, inl s.2)
         cases (inl lt) (inl cd) rec =
             let s = st.on lt cd in
-            at_next' lt cd (push next (Some all) go s.1 s.2 refl) (rec lt) (check (storage_of j) next) refl (cases_Bool (is_transfer (ccw_of j next)))
+            at_next' lt cd (push next (Some all) go s.1 s.2 refl) (rec lt) (program_check (storage_of j) next) refl (cases_Bool (is_transfer (ccw_of j next)))

@@ -12,7 +12,7 @@ use Rattle.std.proofs.lemmas.Bool.{or_left, le-leb}
 use Rattle.ckd_core.specs.declared.command.Kind.TheVariants.{Idle, Inward, Search}
 use Rattle.ckd_core.specs.Extents.{AreExtents}
 use Rattle.chan_walk.specs.declared.place.Entry.TheVariants.{Fresh}
-use Rattle.chan_walk.specs.Alarm.{AreBytes, first_cylinder, IsQuiet, IsQuietMoment, ArePlaces}
+use Rattle.chan_walk.specs.Alarm.{AreBytes, first_cylinder, IsQuietEvent, IsQuietMoment, ArePlaces}
 use Rattle.chan_walk.specs.Alarm.{EachPathIsRun}
 use Rattle.chan_walk.specs.Machine.{on_data, on_command, on_skip}
 use Rattle.chan_walk.proofs.Theory.Faults.{IsGood, clear_check, clear_good}
@@ -100,7 +100,7 @@ module _ (j : Job) where
     es : List Event
     after : Gathered
     step : Step (storage_of j) y j.mask p g es (storage_of j) y j.mask (At q after)
-    quiet : AllByRecursion (IsQuiet j) es
+    quiet : AllByRecursion (IsQuietEvent j) es
     taking : Taking q after
 
   can_step : AreBytes (storage_of j) → (y : ℕ) (p : Place) (g : Gathered) {q : Place}

@@ -1,17 +1,17 @@
 -- A step that carries a CCW out with all its bytes, stores only what was there, and leaves the arm where it stands.
 use Rattle.chan_walk.proofs.Names.{AllByRecursion, ap, arith, begins_recalibrate, begins_set_mask}
 use Rattle.chan_walk.proofs.Names.{Bool, both_ways, byte, carried, cases_Bool, cases_lt, ccw_of}
-use Rattle.chan_walk.proofs.Names.{check, Command, Continues, Event, false, Fields, Gathered}
-use Rattle.chan_walk.proofs.Names.{goes_in, goes_out, Has, home, if◌then◌else◌, inl, inr, is_fresh}
-use Rattle.chan_walk.proofs.Names.{is_known, is_transfer, Job, Kind, kind_of, length, length-append}
-use Rattle.chan_walk.proofs.Names.{length-map, List, map, min, Moves, None, Outward, Place}
-use Rattle.chan_walk.proofs.Names.{range_with_len, refl, rules, Seek, skips, Some, Stage, Step}
-use Rattle.chan_walk.proofs.Names.{storage_of, stored, suc, sym, taken, true, under_way, UsesIn}
-use Rattle.chan_walk.proofs.Names.{with_taken, zero, ℕ, [], ◌++◌, ◌+◌, ◌-◌, ◌<◌, ◌∙◌, ◌∷◌, ◌≡◌, ◌≤◌}
-use Rattle.chan_walk.proofs.Names.{◌⊎◌}
+use Rattle.chan_walk.proofs.Names.{program_check, Command, Continues, Event, false, Fields}
+use Rattle.chan_walk.proofs.Names.{Gathered, goes_in, goes_out, Has, home, if◌then◌else◌, inl, inr}
+use Rattle.chan_walk.proofs.Names.{is_fresh, is_known, is_transfer, Job, Kind, kind_of, length}
+use Rattle.chan_walk.proofs.Names.{length-append, length-map, List, map, min, MovesData, None}
+use Rattle.chan_walk.proofs.Names.{Outward, Place, range_with_len, refl, rules, Seek, skips, Some}
+use Rattle.chan_walk.proofs.Names.{Stage, Step, storage_of, stored, suc, sym, taken, true}
+use Rattle.chan_walk.proofs.Names.{under_way, UsesIn, with_taken, zero, ℕ, [], ◌++◌, ◌+◌, ◌-◌, ◌<◌}
+use Rattle.chan_walk.proofs.Names.{◌∙◌, ◌∷◌, ◌≡◌, ◌≤◌, ◌⊎◌}
 use Rattle.std.proofs.lemmas.List.FromFn.{length-range_with_len, length-map-range_with_len}
 use Rattle.ckd_core.specs.declared.command.Kind.TheVariants.{Idle, Inward, Search}
-use Rattle.chan_walk.specs.Alarm.{AreBytes, IsQuiet, NoSeek}
+use Rattle.chan_walk.specs.Alarm.{AreBytes, IsQuietEvent, HasNoWholeArgument}
 use Rattle.chan_walk.specs.Machine.{Store, Fetch, Gather, SetMask, idle, skipped, written, searched}
 use Rattle.chan_walk.specs.Machine.{Seeks, none, part, stays, Recalibration, no_home, home_stays}
 use Rattle.chan_walk.specs.Machine.{SetsMask, no_mask, no_byte, mask_stays, command_event}
@@ -64,19 +64,19 @@ module _ (j : Job) where
 
   pub record CanMove (c : Fields) (k : Kind) : Type 0 where
     pub es : List Event
-    pub moves : Moves c (full_count k c) (storage_of j) k es (storage_of j)
-    pub quiet : AllByRecursion (IsQuiet j) es
-    pub no_seek : NoSeek es
+    pub moves : MovesData c (full_count k c) (storage_of j) k es (storage_of j)
+    pub quiet : AllByRecursion (IsQuietEvent j) es
+    pub no_seek : HasNoWholeArgument es
     pub stores : k ≡ Inward → skips c ≡ false → Has es (Store c.address (there c))
     pub fetches : goes_out k ≡ true → Has es (Fetch c.address c.count)
 
-  no_event : NoSeek []
+  no_event : HasNoWholeArgument []
   no_event x h = h
 
-  no_fetch : (a n : ℕ) → NoSeek (Fetch a n ∷ [])
+  no_fetch : (a n : ℕ) → HasNoWholeArgument (Fetch a n ∷ [])
   no_fetch a n x h = search rules
 
-  no_store : (a : ℕ) (bs : List ℕ) → NoSeek (Store a bs ∷ [])
+  no_store : (a : ℕ) (bs : List ℕ) → HasNoWholeArgument (Store a bs ∷ [])
   no_store a bs x h = search rules
 
   pub can_move : AreBytes (storage_of j) → (c : Fields) (k : Kind) → CanMove c k
@@ -121,9 +121,9 @@ module _ (j : Job) where
 
   -- what is left of a seek: part of its argument, or nothing once it is whole
   abbrev pub Left : Fields → ℕ → Gathered → List Event → Gathered → Type 0
-  Left c m None es after = (after ≡ None) × NoSeek es
+  Left c m None es after = (after ≡ None) × HasNoWholeArgument es
   Left c m (Some x) es after =
-      ((length (with_taken (storage_of j) c m x) < 6) × (after ≡ Some (with_taken (storage_of j) c m x)) × NoSeek es)
+      ((length (with_taken (storage_of j) c m x) < 6) × (after ≡ Some (with_taken (storage_of j) c m x)) × HasNoWholeArgument es)
       ⊎ ((length (with_taken (storage_of j) c m x) ≡ 6) × (after ≡ None) × Has es (Seek (Some (with_taken (storage_of j) c m x))))
 
   -- the bytes taken are used
@@ -135,11 +135,11 @@ module _ (j : Job) where
     pub es : List Event
     pub after : Gathered
     pub seeks : Seeks c m (storage_of j) y g es y after
-    pub quiet : AllByRecursion (IsQuiet j) es
+    pub quiet : AllByRecursion (IsQuietEvent j) es
     pub left : Left c m g es after
     pub uses : UsesTaken c m g es
 
-  no_gather : (from : List ℕ) → NoSeek (Gather from ∷ [])
+  no_gather : (from : List ℕ) → HasNoWholeArgument (Gather from ∷ [])
   no_gather from x h = search rules
 
   can_seek : (c : Fields) (m y : ℕ) (g : Gathered) → IsFew g → CanSeek c m y g
@@ -160,9 +160,9 @@ module _ (j : Job) where
   pub record CanHome (y : ℕ) (b : Bool) : Type 0 where
     pub es : List Event
     pub homes : Recalibration y b es y
-    pub quiet : AllByRecursion (IsQuiet j) es
+    pub quiet : AllByRecursion (IsQuietEvent j) es
     pub home : b ≡ true → Has es (Seek (Some home))
-    pub no_seek : b ≡ false → NoSeek es
+    pub no_seek : b ≡ false → HasNoWholeArgument es
 
   pub can_home : (y : ℕ) (b : Bool) → CanHome y b
   can_home y true = record { es = _; homes = home_stays; quiet = (tt, tt); home = λ e. inl refl; no_seek = λ e. absurd (cc) }
@@ -173,11 +173,11 @@ module _ (j : Job) where
   pub record CanMask (c : Fields) (m f : ℕ) (b : Bool) : Type 0 where
     pub es : List Event
     pub sets : SetsMask c m (storage_of j) f b es f
-    pub quiet : AllByRecursion (IsQuiet j) es
+    pub quiet : AllByRecursion (IsQuietEvent j) es
     pub takes : b ≡ true → 0 < m → Has es (SetMask c.address (byte (storage_of j) c.address))
-    pub no_seek : NoSeek es
+    pub no_seek : HasNoWholeArgument es
 
-  no_taken : (a x : ℕ) → NoSeek (SetMask a x ∷ [])
+  no_taken : (a x : ℕ) → HasNoWholeArgument (SetMask a x ∷ [])
   no_taken a x z h = search rules
 
   pub can_mask : (c : Fields) (m f : ℕ) (b : Bool) → CanMask c m f b
@@ -200,7 +200,7 @@ module _ (j : Job) where
   pub record Carried (y : ℕ) (p : Place) (g : Gathered) (sk went : List Event) (st : Stage) : Type 0 where
     pub es : List Event
     pub step : Step (storage_of j) y j.mask p g es (storage_of j) y j.mask st
-    pub quiet : AllByRecursion (IsQuiet j) es
+    pub quiet : AllByRecursion (IsQuietEvent j) es
     pub begins : is_fresh p.entered ≡ true → Has es (Command (ccw_of j p).command)
     pub stores : goes_in (kind_at p) ≡ true → skips (ccw_of j p) ≡ false → Has es (Store (ccw_of j p).address (there (ccw_of j p)))
     pub fetches : goes_out (kind_at p) ≡ true → Has es (Fetch (ccw_of j p).address (ccw_of j p).count)
@@ -209,15 +209,16 @@ module _ (j : Job) where
     pub home : begins_recalibrate p (ccw_of j p) ≡ true → Has es (Seek (Some home))
     pub masks : begins_set_mask p (ccw_of j p) ≡ true → 0 < bytes_at p → Has es (SetMask (ccw_of j p).address (byte (storage_of j) (ccw_of j p).address))
     pub last : (e : Event) → Has went e → Has es e
-    pub no_seek : begins_recalibrate p (ccw_of j p) ≡ false → NoSeek sk → NoSeek went → NoSeek es
+    pub no_seek : begins_recalibrate p (ccw_of j p) ≡ false → HasNoWholeArgument sk → HasNoWholeArgument went → HasNoWholeArgument es
 
   pub carry_out : AreBytes (storage_of j) → (y : ℕ) (p : Place) (g : Gathered) (few : IsFew (under_way p (ccw_of j p) g))
-      → check (storage_of j) p ≡ None → is_transfer (ccw_of j p) ≡ false → Known p → {went : List Event} {st : Stage} → AllByRecursion (IsQuiet j) went
+      → program_check (storage_of j) p ≡ None → is_transfer (ccw_of j p) ≡ false → Known p → {went : List Event} {st : Stage}
+      → AllByRecursion (IsQuietEvent j) went
       → Continues p (ccw_of j p) (kind_at p) (bytes_at p) (seek_at y p g few).after went st → Carried y p g (seek_at y p g few).es went st
   carry_out bytes y p g few e t known {went = went} calm goes = record {
     es = command_event p c ++ mv.es ++ sk.es ++ hm.es ++ fm.es ++ went;
     step = carried e t known (full_le (kind_at p) c) mv.moves sk.seeks hm.homes fm.sets goes;
-    quiet = of_six (AllByRecursion (IsQuiet j)) (all_append _) (command_event p c) mv.es sk.es hm.es fm.es went
+    quiet = of_six (AllByRecursion (IsQuietEvent j)) (all_append _) (command_event p c) mv.es sk.es hm.es fm.es went
         (calm_begun (is_fresh p.entered)) mv.quiet sk.quiet hm.quiet fm.quiet calm;
     begins = λ f. among _ (inl (has_begun (is_fresh p.entered) f));
     stores = λ f h. among _ (inr (inl (mv.stores (inward_from (kind_at p) f) h)));
@@ -228,7 +229,7 @@ module _ (j : Job) where
     home = λ f. among _ (inr (inr (inr (inl (hm.home f)))));
     masks = λ f l. among _ (inr (inr (inr (inr (inl (fm.takes f l))))));
     last = λ z h. among z (inr (inr (inr (inr (inr h)))));
-    no_seek = λ h a b. of_six NoSeek no_seek_append (command_event p c) mv.es sk.es hm.es fm.es went
+    no_seek = λ h a b. of_six HasNoWholeArgument no_seek_append (command_event p c) mv.es sk.es hm.es fm.es went
         (no_begun (is_fresh p.entered)) mv.no_seek a (hm.no_seek h) fm.no_seek b;
   }
     where
@@ -251,11 +252,11 @@ module _ (j : Job) where
           → Has (command_event p c ++ mv.es ++ sk.es ++ hm.es ++ fm.es ++ went) z
       among = in_six (command_event p c) mv.es sk.es hm.es fm.es went
 
-      calm_begun : (f : Bool) → AllByRecursion (IsQuiet j) (if f then Command c.command ∷ [] else [])
+      calm_begun : (f : Bool) → AllByRecursion (IsQuietEvent j) (if f then Command c.command ∷ [] else [])
       calm_begun f = search rules
 
       has_begun : (f : Bool) → f ≡ true → Has (if f then Command c.command ∷ [] else []) (Command c.command)
       has_begun f e = search rules
 
-      no_begun : (f : Bool) → NoSeek (if f then Command c.command ∷ [] else [])
+      no_begun : (f : Bool) → HasNoWholeArgument (if f then Command c.command ∷ [] else [])
       no_begun f z h = search rules

@@ -1,18 +1,19 @@
 -- Where the verdict is yes: guarded bytes never change, every place is reachable, every run is safe and the job is steady.
 use Rattle.chan_walk.proofs.Names.{AllByRecursion, allows, ap, At, begins_seek, Bool, both_ways}
-use Rattle.chan_walk.proofs.Names.{byte, carried, ccw, ccw_of, check, check_of, Checked, checked}
-use Rattle.chan_walk.proofs.Names.{Ended, Event, false, Fields, Gathered, HasArgument}
-use Rattle.chan_walk.proofs.Names.{if◌then◌else◌, inl, inr, is_at_least, is_known, is_none}
-use Rattle.chan_walk.proofs.Names.{is_refused, is_transfer, IsClear, IsGuarded, IsReachable, IsRun}
-use Rattle.chan_walk.proofs.Names.{IsSameIn, IsVerdict, Job, kind_of, length, List, Moment, None}
-use Rattle.chan_walk.proofs.Names.{Option, Outward, Place, refl, rules, Some, Stage, Step}
-use Rattle.chan_walk.proofs.Names.{storage_of, subst, sym, transferred, transferred_to, true}
-use Rattle.chan_walk.proofs.Names.{UsesIn, Yes, ℕ, [], ◌∙◌, ◌∷◌, ◌≡◌, ◌⊎◌}
+use Rattle.chan_walk.proofs.Names.{byte, carried, ccw, ccw_of, program_check, program_check_of}
+use Rattle.chan_walk.proofs.Names.{Checked, checked, Ended, Event, false, Fields, Gathered}
+use Rattle.chan_walk.proofs.Names.{HasArgument, if◌then◌else◌, inl, inr, is_at_least, is_known}
+use Rattle.chan_walk.proofs.Names.{is_none, is_refused, is_transfer, IsClear, IsGuarded}
+use Rattle.chan_walk.proofs.Names.{IsReachable, IsRun, IsSameIn, IsVerdict, Job, kind_of, length}
+use Rattle.chan_walk.proofs.Names.{List, Moment, None, Option, Outward, Place, refl, rules, Some}
+use Rattle.chan_walk.proofs.Names.{Stage, Step, storage_of, subst, sym, transferred, transferred_to}
+use Rattle.chan_walk.proofs.Names.{true, UsesIn, Yes, ℕ, [], ◌∙◌, ◌∷◌, ◌≡◌, ◌⊎◌}
 use Rattle.std.proofs.lemmas.Bool.{not-false}
 use Rattle.chan_walk.specs.declared.reason.Reason.TheVariants.{ChangesCcw, ChangesArgument}
-use Rattle.chan_walk.specs.Headline.{IsUnchecked, IsSafeMoment, IsSafeEvent, Holds, YesIsSafe}
-use Rattle.chan_walk.specs.Headline.{YesIsSafeAmong, IsSpared, IsAtReachable, GathersPart}
-use Rattle.chan_walk.specs.Headline.{GuardedStays, StaysReachable, GathersArguments}
+use Rattle.chan_walk.specs.Headline.{MeetsNoProgramCheck, IsSafeMoment, IsSafeEvent}
+use Rattle.chan_walk.specs.Headline.{HoldsInitialByte, YesIsSafe, YesIsSafeAmong, IsSpared}
+use Rattle.chan_walk.specs.Headline.{IsAtReachable, GathersPart, GuardedStays, StaysReachable}
+use Rattle.chan_walk.specs.Headline.{GathersArguments}
 use Rattle.chan_walk.specs.Job.{HasMask}
 use Rattle.chan_walk.specs.Machine.{unknown, StepFrom}
 use Rattle.chan_walk.specs.Runs.{IsStart, Steps, IsRunAmong, UsesAt, UsesInCcw, UsesInArgument}
@@ -110,9 +111,9 @@ module _ (j : Job) (v : IsVerdict j Yes) where
       → Step s y f p g es t y' f' st → Invariant j s y f (At p g) → Stepped j t y' f' st es
   step_ok {s = s} {p = p} (checked {r = r} e) k =
       let c = ccw_kept s p k.same k.stage.0 in
-      let same : check s p ≡ check (storage_of j) p =
-      ap (λ n. check_of n p (ccw s p.address)) k.same_length ∙ ap (λ z. check_of (length (storage_of j)) p z) c in
-      let n : check (storage_of j) p ≡ None = clear_check j p (clear_at p k.stage.0) in
+      let same : program_check s p ≡ program_check (storage_of j) p =
+      ap (λ n. program_check_of n p (ccw s p.address)) k.same_length ∙ ap (λ z. program_check_of (length (storage_of j)) p z) c in
+      let n : program_check (storage_of j) p ≡ None = clear_check j p (clear_at p k.stage.0) in
       absurd (cc)
   step_ok {s = s} {y = y} {f = f} {p = p} {g = g} (transferred e t) k =
       let c = ccw_kept s p k.same k.stage.0 in
@@ -195,7 +196,7 @@ module _ (j : Job) (v : IsVerdict j Yes) where
       → (ms : List Moment) → IsSpared j ms → AllByRecursion P ms
   all_kept P f ms r = all_map IsOk P (λ m k. f m k.kept) ms (each_ok ms r)
 
-  unchecked : (st : Stage) → IsKept j st → IsUnchecked st
+  unchecked : (st : Stage) → IsKept j st → MeetsNoProgramCheck st
   unchecked st k = search rules
 
   is_safe : HasMask j → (m : Moment) → IsOk m → IsSafeMoment j m
@@ -239,7 +240,7 @@ gathers_arguments j v = all_kept j v _ (λ m k. gathers j v m.stage k.stage)
 pub yes_is_safe_among : YesIsSafeAmong
 yes_is_safe_among j h v = (
   λ run r. all_map _ (IsSafeMoment j) (is_safe j v h) run (each_ok j v run r),
-  λ used run b r u s. all_kept j v (Holds j b) (λ m k. k.same b (used_guarded j v used b (each_ok j v used r) u)) run s,
+  λ used run b r u s. all_kept j v (HoldsInitialByte j b) (λ m k. k.same b (used_guarded j v used b (each_ok j v used r) u)) run s,
 )
 
 -- a run by itself is one among others that do nothing

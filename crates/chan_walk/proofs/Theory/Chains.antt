@@ -1,10 +1,10 @@
 -- Chains of CCWs that give the bytes of an argument: there is one or there is none, and there is at most one.
 use Rattle.chan_walk.proofs.Names.{and_from, ap, argument, arith, both_ways, cases_Bool, cases_lt}
-use Rattle.chan_walk.proofs.Names.{ccw, chains_data, false, HasArgument, inl, inr, is_counted}
-use Rattle.chan_walk.proofs.Names.{is_part, is_transfer, IsChain, Leads, List, None, Option, refl}
-use Rattle.chan_walk.proofs.Names.{rules, Some, subst, suc, sym, true, zero, ℕ, [], ◌-◌, ◌<◌, ◌∙◌}
-use Rattle.chan_walk.proofs.Names.{◌∷◌, ◌≡◌, ◌≤◌, ◌⊎◌}
-use Rattle.chan_walk.specs.Read.{onward}
+use Rattle.chan_walk.proofs.Names.{ccw, chains_data, false, HasArgument, inl, inr, has_count}
+use Rattle.chan_walk.proofs.Names.{is_part, is_transfer, IsChain, ChainLeads, List, None, Option}
+use Rattle.chan_walk.proofs.Names.{refl, rules, Some, subst, suc, sym, true, zero, ℕ, [], ◌-◌, ◌<◌}
+use Rattle.chan_walk.proofs.Names.{◌∙◌, ◌∷◌, ◌≡◌, ◌≤◌, ◌⊎◌}
+use Rattle.chan_walk.specs.Operand.{onward}
 use Rattle.chan_walk.specs.Argument.{AreLinked, BeginsAt}
 
 pub part_is_no_transfer : (s : List ℕ) (a : ℕ) → is_part s a ≡ true → is_transfer (ccw s a) ≡ false
@@ -12,7 +12,7 @@ unfolding is_part
 part_is_no_transfer s a h = search rules
 
 pub part_counts : (s : List ℕ) (a : ℕ) → is_part s a ≡ true → 0 < (ccw s a).count
-unfolding is_part is_counted
+unfolding is_part has_count
 part_counts s a h = search rules
 
 first_is_part : (s : List ℕ) (a : ℕ) (l : List ℕ) → BeginsAt a l → AreLinked s l → is_part s a ≡ true
@@ -25,13 +25,13 @@ pub chain_tail : (s : List ℕ) (n a b d : ℕ) (l : List ℕ) → IsChain s n a
 chain_tail s n a b d l k = search rules
 
 pub chain_cons : (s : List ℕ) (n a b : ℕ) (l : List ℕ) → is_part s a ≡ true → chains_data (ccw s a) ≡ true
-    → Leads s a b → (ccw s a).count < n → IsChain s (n - (ccw s a).count) b l → IsChain s n a (a ∷ l)
+    → ChainLeads s a b → (ccw s a).count < n → IsChain s (n - (ccw s a).count) b l → IsChain s n a (a ∷ l)
 chain_cons s n a b l h cd to lt k = search rules
 
-pub onward_leads : (s : List ℕ) (a : ℕ) → Leads s a (onward s a)
+pub onward_leads : (s : List ℕ) (a : ℕ) → ChainLeads s a (onward s a)
 onward_leads s a = search rules
 
-pub onward_only : (s : List ℕ) (a b : ℕ) → Leads s a b → is_part s b ≡ true → b ≡ onward s a
+pub onward_only : (s : List ℕ) (a b : ℕ) → ChainLeads s a b → is_part s b ≡ true → b ≡ onward s a
 onward_only s a b k h = search (rules, part_is_no_transfer, and_from)
 
 -- there is a chain of n bytes from a, or there is none
@@ -84,7 +84,7 @@ chain_unique s n a (x ∷ d ∷ l) (y ∷ z ∷ m) k h =
     let left = chain_tail s n a x d l k in
     let right = chain_tail s n a y z m h in
     let f = onward_only s x d k.linked.2 (chain_begins_with_part s _ d (d ∷ l) left) in
-    let g = onward_only s x z (subst (λ b. Leads s b z) e h.linked.2) (chain_begins_with_part s _ z (z ∷ m) right) in
+    let g = onward_only s x z (subst (λ b. ChainLeads s b z) e h.linked.2) (chain_begins_with_part s _ z (z ∷ m) right) in
     let right' = subst (λ b. IsChain s (n - (ccw s b).count) z (z ∷ m)) e right in
     let same = chain_unique s (n - (ccw s x).count) d (d ∷ l) (z ∷ m) left (subst (λ b. IsChain s (n - (ccw s x).count) b (z ∷ m)) (g ∙ sym f) right') in
     ap (λ b. b ∷ d ∷ l) (sym e) ∙ ap (λ b. y ∷ b) same

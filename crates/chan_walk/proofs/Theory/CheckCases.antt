@@ -1,32 +1,32 @@
 -- The program check of a place, case by case.
-use Rattle.chan_walk.proofs.Names.{ccw_at, ccw_at-some, check, check_of, false, Fields}
-use Rattle.chan_walk.proofs.Names.{first_reason, has_data_in, if◌then◌else◌, is_aligned, is_counted}
-use Rattle.chan_walk.proofs.Names.{is_formed, is_inside, is_part, is_transfer, length, List, None}
-use Rattle.chan_walk.proofs.Names.{not, option_or, Place, refl, rules, Some, table_of_non_transfer}
-use Rattle.chan_walk.proofs.Names.{true, ℕ, [], ◌%◌, ◌&&◌, ◌∙◌, ◌∷◌, ◌≡◌}
+use Rattle.chan_walk.proofs.Names.{ccw_at, ccw_at-some, program_check, program_check_of, false}
+use Rattle.chan_walk.proofs.Names.{Fields, first_reason, has_data_in, if◌then◌else◌, is_aligned}
+use Rattle.chan_walk.proofs.Names.{has_count, is_formed, is_inside, is_part, is_transfer, length}
+use Rattle.chan_walk.proofs.Names.{List, None, not, option_or, Place, refl, rules, Some}
+use Rattle.chan_walk.proofs.Names.{table_of_non_transfer, true, ℕ, [], ◌%◌, ◌&&◌, ◌∙◌, ◌∷◌, ◌≡◌}
 use Rattle.std.specs.Bool.{then_some}
 use Rattle.ccw_core.proofs.StorageLemmas.{is_aligned-true, is_aligned-false, ccw_at-none}
 use Rattle.chan_walk.specs.declared.reason.Reason.TheVariants.{Misaligned, OutsideStorage}
 use Rattle.chan_walk.specs.declared.reason.Reason.TheVariants.{TransferNotAllowed}
 
-pub check-misaligned : (s : List ℕ) (p : Place) → (p.address % 8 ≡ 0 → ⊥) → check s p ≡ Some Misaligned
-unfolding check_of
+pub check-misaligned : (s : List ℕ) (p : Place) → (p.address % 8 ≡ 0 → ⊥) → program_check s p ≡ Some Misaligned
+unfolding program_check_of
 check-misaligned s p h = let a : is_aligned p.address ≡ false = is_aligned-false p.address h in rw a refl
 
-pub check-outside : (s : List ℕ) (p : Place) → p.address % 8 ≡ 0 → ccw_at s p.address ≡ None → check s p ≡ Some OutsideStorage
-unfolding check_of
+pub check-outside : (s : List ℕ) (p : Place) → p.address % 8 ≡ 0 → ccw_at s p.address ≡ None → program_check s p ≡ Some OutsideStorage
+unfolding program_check_of
 check-outside s p h n = search (rules, is_aligned-true, ccw_at-none)
 
 -- where a CCW stands, only its own bits are left to look at
 pub check-found : (s : List ℕ) (p : Place) (c : Fields) → ccw_at s p.address ≡ Some c
-    → check s p ≡ option_or (first_reason ((is_transfer c && p.after_transfer, TransferNotAllowed) ∷ []))
+    → program_check s p ≡ option_or (first_reason ((is_transfer c && p.after_transfer, TransferNotAllowed) ∷ []))
     (if is_transfer c then None else first_reason (table_of_non_transfer (length s) p c))
-unfolding check_of
+unfolding program_check_of
 check-found s p c h = search rules
 
 -- a CCW that was found gives bytes of an argument
 pub found_is_part : (s : List ℕ) (a : ℕ) (c : Fields) → ccw_at s a ≡ Some c
-    → is_part s a ≡ (not (is_transfer c) && is_formed c && is_counted c && has_data_in (length s) c)
+    → is_part s a ≡ (not (is_transfer c) && is_formed c && has_count c && has_data_in (length s) c)
 unfolding is_part
 found_is_part s a c h = search (rules, ccw_at-some)
 
@@ -36,7 +36,7 @@ is_part-none s a h = let x : (is_aligned a && is_inside (length s) a) ≡ false 
 
 -- a transfer in channel meets no check but that it may not follow another
 pub check-transfer : (s : List ℕ) (p : Place) (c : Fields) → ccw_at s p.address ≡ Some c
-    → is_transfer c ≡ true → check s p ≡ then_some p.after_transfer TransferNotAllowed
+    → is_transfer c ≡ true → program_check s p ≡ then_some p.after_transfer TransferNotAllowed
 check-transfer s p c h t =
     check-found s p c h
     ∙ rw t (elim p.after_transfer as

@@ -13,11 +13,11 @@ use Rattle.ckd_core.specs.Command.{recalibrates, sets_mask}
 use Rattle.chan_walk.specs.Fault.{kind_of_command}
 
 -- a command that was looked up passes a test; so does none
-abbrev pub Passes : (Command → Bool) → Option Command → Type 0
-Passes test None = Unit {0}
-Passes test (Some e) = test e ≡ true
+abbrev pub PassesTest : (Command → Bool) → Option Command → Type 0
+PassesTest test None = Unit {0}
+PassesTest test (Some e) = test e ≡ true
 
-pub found_passes : (test : Command → Bool) (code : ℕ) (es : List Command) → list_all test es ≡ true → Passes test (find_code code es)
+pub found_passes : (test : Command → Bool) (code : ℕ) (es : List Command) → list_all test es ≡ true → PassesTest test (find_code code es)
 found_passes test code [] h = tt
 found_passes test code (e ∷ es) h = search (rules, and_parts, cond_both, found_passes test code es)
 
@@ -34,7 +34,7 @@ table_keeps : list_all seeks_go_out table ≡ true
 unfolding table
 table_keeps = refl
 
-rule_at : (o : Option Command) → Passes seeks_go_out o → class_passes class_is_seek o ≡ true
+rule_at : (o : Option Command) → PassesTest seeks_go_out o → class_passes class_is_seek o ≡ true
     → (kind_of_command o ≡ Outward) × (class_passes class_recalibrates o ≡ false)
 rule_at o h k = search rules
 
@@ -45,7 +45,7 @@ masks_keep : list_all masks_go_out table ≡ true
 unfolding table
 masks_keep = refl
 
-mask_at : (o : Option Command) → Passes masks_go_out o → class_passes class_sets_mask o ≡ true → kind_of_command o ≡ Outward
+mask_at : (o : Option Command) → PassesTest masks_go_out o → class_passes class_sets_mask o ≡ true → kind_of_command o ≡ Outward
 mask_at o h k = search rules
 
 pub mask_is_outward : (code : ℕ) → sets_mask code ≡ true → kind_of_command (lookup code) ≡ Outward
@@ -53,9 +53,9 @@ unfolding sets_mask lookup
 mask_is_outward code h = mask_at (lookup code) (found_passes masks_go_out code table masks_keep) h
 
 -- what was looked up has the code
-pub found_code : (code : ℕ) (es : List Command) → Passes (λ e. e.code == code) (find_code code es)
+pub found_code : (code : ℕ) (es : List Command) → PassesTest (λ e. e.code == code) (find_code code es)
 found_code code [] = tt
-found_code code (e ∷ es) = cond_both (e.code == code) (Some e) (find_code code es) (Passes (λ x. x.code == code)) (λ h. h) (λ _. found_code code es)
+found_code code (e ∷ es) = cond_both (e.code == code) (Some e) (find_code code es) (PassesTest (λ x. x.code == code)) (λ h. h) (λ _. found_code code es)
 
 abbrev masks_are_no_transfers : Command → Bool
 masks_are_no_transfers e = not (class_sets_mask e.class) || not (e.code % 16 == 8)
@@ -64,8 +64,8 @@ masks_apart : list_all masks_are_no_transfers table ≡ true
 unfolding table
 masks_apart = refl
 
-apart_at : (code : ℕ) (o : Option Command) → Passes masks_are_no_transfers o
-    → Passes (λ e. e.code == code) o → class_passes class_sets_mask o ≡ true → (code % 16 == 8) ≡ false
+apart_at : (code : ℕ) (o : Option Command) → PassesTest masks_are_no_transfers o
+    → PassesTest (λ e. e.code == code) o → class_passes class_sets_mask o ≡ true → (code % 16 == 8) ≡ false
 apart_at code o h same k = search rules
 
 pub mask_is_no_transfer : (c : Fields) → sets_mask c.command ≡ true → is_transfer c ≡ false
@@ -87,7 +87,7 @@ seeks_apart : list_all seeks_set_no_mask table ≡ true
 unfolding table
 seeks_apart = refl
 
-unset_at : (o : Option Command) → Passes seeks_set_no_mask o → class_passes class_is_seek o ≡ true → class_passes class_sets_mask o ≡ false
+unset_at : (o : Option Command) → PassesTest seeks_set_no_mask o → class_passes class_is_seek o ≡ true → class_passes class_sets_mask o ≡ false
 unset_at o h k = search rules
 
 pub seek_sets_no_mask : (code : ℕ) → is_seek code ≡ true → sets_mask code ≡ false
@@ -109,8 +109,8 @@ none_transfers : list_all is_no_transfer table ≡ true
 unfolding table
 none_transfers = refl
 
-found_apart : (code : ℕ) (o : Option Command) (test : MaskClass → Bool) → Passes is_no_transfer o
-    → Passes (λ e. e.code == code) o → class_passes test o ≡ true → (code % 16 == 8) ≡ false
+found_apart : (code : ℕ) (o : Option Command) (test : MaskClass → Bool) → PassesTest is_no_transfer o
+    → PassesTest (λ e. e.code == code) o → class_passes test o ≡ true → (code % 16 == 8) ≡ false
 found_apart code o test h same k = search rules
 
 pub seek_is_no_transfer : (c : Fields) → is_seek c.command ≡ true → is_transfer c ≡ false

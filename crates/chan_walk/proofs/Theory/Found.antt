@@ -1,7 +1,7 @@
 -- The own fault of a place with its evidence.
-use Rattle.std.proofs.Common.{Bool, ◌≡◌, ℕ, zero, suc, ◌+◌, ◌<◌, ◌≤◌, true, false, not, ◌&&◌, if◌then◌else◌, List}
-use Rattle.std.proofs.Common.{◌++◌, Option, Some, None, refl, sym, ap, ◌∙◌, subst, ◌⊎◌, inl, inr}
-use Rattle.std.proofs.Common.{arith, rules}
+use Rattle.std.proofs.Common.{Bool, ◌≡◌, ℕ, zero, suc, ◌+◌, ◌<◌, ◌≤◌, true, false, not, ◌&&◌}
+use Rattle.std.proofs.Common.{if◌then◌else◌, List, ◌++◌, Option, Some, None, refl, sym, ap, ◌∙◌}
+use Rattle.std.proofs.Common.{subst, ◌⊎◌, inl, inr, arith, rules}
 use Rattle.std.specs.Cmp.Derive.{one_truth}
 use Rattle.std.specs.Option.{option_or}
 use Rattle.std.proofs.lemmas.Bool.{and_parts, and_right, both_ways, cases_Bool, cond-false}
@@ -25,7 +25,7 @@ use Rattle.chan_walk.specs.declared.place.Place.{Place}
 use Rattle.chan_walk.specs.declared.reason.Reason.{Reason}
 use Rattle.chan_walk.specs.declared.reason.Reason.TheVariants.{SeekOutside, WeakensMask}
 use Rattle.chan_walk.specs.Argument.{HasArgument}
-use Rattle.chan_walk.specs.Check.{check, first_reason}
+use Rattle.chan_walk.specs.ProgramCheck.{program_check, first_reason}
 use Rattle.chan_walk.specs.Evidence.{GoTogether, IsOwnFault}
 use Rattle.chan_walk.specs.Fault.{goes_in, goes_out, fetches, kind_of, stores}
 use Rattle.chan_walk.specs.Fault.{allows, begins_recalibrate, begins_seek, begins_set_mask}
@@ -50,19 +50,19 @@ found_or j p r t None q h k = rw h k
 found_or j p r t (Some e) q h k = (ap (λ z. option_or z t) h.0, h.1)
 
 -- what the channel's check finds is the own fault
-pub own_of_check : (j : Job) (p : Place) (e : Evidence) → GoTogether j p (check (storage_of j) p) (Some e) → IsOwnFault j p (Some e)
+pub own_of_check : (j : Job) (p : Place) (e : Evidence) → GoTogether j p (program_check (storage_of j) p) (Some e) → IsOwnFault j p (Some e)
 own_of_check j p e h =
     let a = argument_exists (storage_of j) p.address in
-    record { reason = check (storage_of j) p; fault = (a.0, a.1, rw h.0 refl); found = h }
+    record { reason = program_check (storage_of j) p; fault = (a.0, a.1, rw h.0 refl); found = h }
 
 -- a transfer that passes it has none
-pub own_of_transfer : (j : Job) (p : Place) → check (storage_of j) p ≡ None → is_transfer (ccw_of j p) ≡ true → IsOwnFault j p None
+pub own_of_transfer : (j : Job) (p : Place) → program_check (storage_of j) p ≡ None → is_transfer (ccw_of j p) ≡ true → IsOwnFault j p None
 own_of_transfer j p h t =
     let a = argument_exists (storage_of j) p.address in
     record { reason = None; fault = (a.0, a.1, rw (h, t) refl); found = refl }
 
 -- the three parts of the table, one after another
-pub own_of_parts : (j : Job) (p : Place) (c : Fields) (command lent operand : Option Evidence) → c ≡ ccw_of j p → check (storage_of j) p ≡ None
+pub own_of_parts : (j : Job) (p : Place) (c : Fields) (command lent operand : Option Evidence) → c ≡ ccw_of j p → program_check (storage_of j) p ≡ None
     → is_transfer c ≡ false → GoTogether j p (first_reason (command_faults j p c)) command → GoTogether j p (first_reason (lent_faults j p c)) lent
     → ((x : Option (List ℕ)) × HasArgument (storage_of j) p.address x × GoTogether j p (first_reason (operand_faults j p c x)) operand)
     → IsOwnFault j p (option_or (option_or command lent) operand)
@@ -73,13 +73,18 @@ own_of_parts j p c command lent operand e h t f g k =
     ∙ ap (λ o. option_or o (first_reason (operand_faults j p c k.0))) (first_reason-append (command_faults j p c) (lent_faults j p c))
     in
     let r = first_reason (table_of_own j p c k.0) in
-    let whole : option_or (check (storage_of j) p) (if is_transfer c then None else r) ≡ r =
+    let whole : option_or (program_check (storage_of j) p) (if is_transfer c then None else r) ≡ r =
     ap (λ o. option_or o (if is_transfer c then None else r)) h ∙ cond-false _ _ _ t
     in
     let found = found_or j p _ _ (option_or command lent) operand (found_or j p _ _ command lent f g) k.2 in
     record {
       reason = r;
-      fault = (k.0, k.1, subst (λ w. option_or (check (storage_of j) p) (if is_transfer w then None else first_reason (table_of_own j p w k.0)) ≡ r) e whole);
+      fault = (
+        k.0,
+        k.1,
+        subst (λ w. option_or (program_check (storage_of j) p) (if is_transfer w then None else first_reason (table_of_own j p w k.0))
+            ≡ r) e whole,
+      );
       found = subst (λ z. GoTogether j p z (option_or (option_or command lent) operand)) (sym tests) found;
     }
 

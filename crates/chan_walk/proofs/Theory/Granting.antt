@@ -1,15 +1,15 @@
 -- Two jobs of one program: where one has the verdict yes, the other has it exactly if all that is reachable is clear.
 use Rattle.chan_walk.proofs.Names.{allows, and_from, and_parts, ap, Area, AreClear, arith}
 use Rattle.chan_walk.proofs.Names.{begins_recalibrate, begins_seek, begins_set_mask, Bool, byte}
-use Rattle.chan_walk.proofs.Names.{ccw, ccw_of, check, cond, covered, extents_of, false, fetch_of}
-use Rattle.chan_walk.proofs.Names.{Fields, first_place, first_reason, goes_in, goes_out}
+use Rattle.chan_walk.proofs.Names.{ccw, ccw_of, program_check, cond, covered, extents_of, false}
+use Rattle.chan_walk.proofs.Names.{fetch_of, Fields, first_place, first_reason, goes_in, goes_out}
 use Rattle.chan_walk.proofs.Names.{has_cylinder, HasArgument, if◌then◌else◌, inhibits, inl, inr}
 use Rattle.chan_walk.proofs.Names.{is_at_least, is_fresh, is_known, is_none, is_refused}
 use Rattle.chan_walk.proofs.Names.{is_transfer, IsClear, IsReachable, IsVerdict, Job, kind_of}
 use Rattle.chan_walk.proofs.Names.{length, lies_in, List, None, not, Offends, Option, option_or}
 use Rattle.chan_walk.proofs.Names.{Place, refl, rules, skips, Some, Stands, storage_of, store_of}
-use Rattle.chan_walk.proofs.Names.{stores, subst, sym, table_of_own, Takes, transferred_to, true}
-use Rattle.chan_walk.proofs.Names.{Yes, ℕ, ◌&&◌, ◌+◌, ◌<◌, ◌↔◌, ◌∙◌, ◌≡◌, ◌≤◌}
+use Rattle.chan_walk.proofs.Names.{stores, subst, sym, table_of_own, TakesArgumentByte}
+use Rattle.chan_walk.proofs.Names.{transferred_to, true, Yes, ℕ, ◌&&◌, ◌+◌, ◌<◌, ◌↔◌, ◌∙◌, ◌≡◌, ◌≤◌}
 use Rattle.std.proofs.Common.{◌||◌, nat_lt}
 use Rattle.std.proofs.lemmas.Bool.{or_from, not-true, not-false, not_from_true}
 use Rattle.ckd_core.specs.Track.{cylinder_of, head_of, is_allowed}
@@ -61,7 +61,7 @@ good_rest k p x g = go (is_transfer (ccw_of k p)) refl
     go true e = refl
     go false e = good_table k p (ccw_of k p) x (g e)
 
-pub clear_from : (k : Job) (p : Place) (x : Option (List ℕ)) → HasArgument (storage_of k) p.address x → check (storage_of k) p ≡ None
+pub clear_from : (k : Job) (p : Place) (x : Option (List ℕ)) → HasArgument (storage_of k) p.address x → program_check (storage_of k) p ≡ None
     → (is_transfer (ccw_of k p) ≡ false → IsGood k p (ccw_of k p) x) → IsClear k p
 clear_from k p x a h g = (
   x,
@@ -93,7 +93,7 @@ module _ (j k : Job) (one : AreOfOneProgram j k) where
       → (ccw_of j p).address + (ccw_of j p).count ≤ length (storage_of j) → IsGood j p (ccw_of j p) x → IsGood k p (ccw_of j p) x)
       → IsClear k p
   clear_over p f g =
-      clear_from k p f.0 (subst (λ s. HasArgument s p.address f.0) one.storage f.1) (subst (λ s. check s p ≡ None) one.storage (clear_check j p f))
+      clear_from k p f.0 (subst (λ s. HasArgument s p.address f.0) one.storage f.1) (subst (λ s. program_check s p ≡ None) one.storage (clear_check j p f))
       (λ t. let u : is_transfer (ccw_of j p) ≡ false = subst (λ c. is_transfer c ≡ false) (sym (ccw_over p)) t in
       subst (λ c. IsGood k p c f.0) (ccw_over p) (g f.0 f.1 u (data_in_storage (storage_of j) p (ccw_of j p) (clear_check j p f) refl u) (clear_good j p f u)))
 
@@ -103,7 +103,7 @@ module _ (j k : Job) (one : AreOfOneProgram j k) where
     stands = subst (λ s. Stands s p.address) one.storage;
     clear = clear;
     ccw = λ f. ccw_over p;
-    takes = λ f b. subst (λ s. Takes s p b) one.storage;
+    takes = λ f b. subst (λ s. TakesArgumentByte s p b) one.storage;
   }
 
   pub same_first : first_place j ≡ first_place k

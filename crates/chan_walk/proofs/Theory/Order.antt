@@ -1,9 +1,9 @@
 -- The whole table of own faults: its first reason is the own fault, and its numbers increase.
-use Rattle.chan_walk.proofs.Names.{ap, append-nil, arith, Bool, ccw_of, check_of, false, Fields}
-use Rattle.chan_walk.proofs.Names.{first_reason, if◌then◌else◌, is_transfer, length, List, None}
-use Rattle.chan_walk.proofs.Names.{Option, option_or, Reason, rules, storage_of, subst, suc, sym}
-use Rattle.chan_walk.proofs.Names.{table_of_every_ccw, table_of_non_transfer, table_of_own, true}
-use Rattle.chan_walk.proofs.Names.{zero, ℕ, [], ◌++◌, ◌+◌, ◌<◌, ◌∙◌, ◌∷◌, ◌≡◌}
+use Rattle.chan_walk.proofs.Names.{ap, append-nil, arith, Bool, ccw_of, program_check_of, false}
+use Rattle.chan_walk.proofs.Names.{Fields, first_reason, if◌then◌else◌, is_transfer, length, List}
+use Rattle.chan_walk.proofs.Names.{None, Option, option_or, Reason, rules, storage_of, subst, suc}
+use Rattle.chan_walk.proofs.Names.{sym, table_of_every_ccw, table_of_non_transfer, table_of_own}
+use Rattle.chan_walk.proofs.Names.{true, zero, ℕ, [], ◌++◌, ◌+◌, ◌<◌, ◌∙◌, ◌∷◌, ◌≡◌}
 use Rattle.std.proofs.Common.{slice_index}
 use Rattle.std.specs.List.Sorted.{IsStrictlyIncreasing}
 use Rattle.chan_walk.specs.Order.{numbers_of, NumbersIncrease}
@@ -26,11 +26,11 @@ increasing (n ∷ m ∷ ms) h (suc k) l =
 or_assoc : (a b c : Option Reason) → option_or (option_or a b) c ≡ option_or a (option_or b c)
 or_assoc a b c = search rules
 
-or_none : (a : Option Reason) → option_or a None ≡ a
-or_none a = search rules
+marks_or_none : (a : Option Reason) → option_or a None ≡ a
+marks_or_none a = search rules
 
 pub numbers_increase : NumbersIncrease
-unfolding check_of
+unfolding program_check_of
 numbers_increase j p x = (same (is_transfer c), rises (is_transfer c))
   where
     c : Fields
@@ -47,7 +47,7 @@ numbers_increase j p x = (same (is_transfer c), rises (is_transfer c))
 
     same : (b : Bool) → option_or (option_or (first_reason any) (if b then None else first_reason ccw)) (if b then None else first_reason own)
         ≡ first_reason (any ++ (if b then [] else ccw ++ own))
-    same true = or_none (option_or (first_reason any) None) ∙ or_none (first_reason any) ∙ ap first_reason (sym (append-nil any))
+    same true = marks_or_none (option_or (first_reason any) None) ∙ marks_or_none (first_reason any) ∙ ap first_reason (sym (append-nil any))
     same false =
         or_assoc (first_reason any) (first_reason ccw) (first_reason own)
         ∙ ap (option_or (first_reason any)) (sym (first_reason-append ccw own)) ∙ sym (first_reason-append any (ccw ++ own))

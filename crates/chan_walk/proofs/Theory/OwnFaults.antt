@@ -1,5 +1,6 @@
 -- Parts of the table of own faults, and what passed the channel's checks.
-use Rattle.chan_walk.proofs.Names.{Bool, ccw, check, false, Fields, first_reason, has_data_in}
+use Rattle.chan_walk.proofs.Names.{Bool, ccw, program_check, false, Fields, first_reason}
+use Rattle.chan_walk.proofs.Names.{has_data_in}
 use Rattle.chan_walk.proofs.Names.{is_transfer, leb-true, length, List, None, option_or, Place}
 use Rattle.chan_walk.proofs.Names.{Reason, refl, rules, subst, sym, ℕ, [], ◌++◌, ◌+◌, ◌∷◌, ◌≡◌, ◌≤◌}
 use Rattle.chan_walk.proofs.Theory.Checks.{passed}
@@ -9,7 +10,8 @@ first_reason-append [] ys = refl
 first_reason-append (x ∷ xs) ys = search (rules, first_reason-append xs ys)
 
 -- the data range of a CCW that passed the channel's checks lies in storage
-pub data_in_storage : (s : List ℕ) (p : Place) (c : Fields) → check s p ≡ None → c ≡ ccw s p.address → is_transfer c ≡ false → c.address + c.count ≤ length s
+pub data_in_storage : (s : List ℕ) (p : Place) (c : Fields) → program_check s p ≡ None → c ≡ ccw s p.address → is_transfer c ≡ false
+    → c.address + c.count ≤ length s
 unfolding has_data_in
 data_in_storage s p c h e t =
     let f = passed s p h (subst (λ (w : Fields). is_transfer w ≡ false) e t) in

@@ -1,10 +1,10 @@
 -- From one job to another: what the verdict asks of the places that both reach carries over.
-use Rattle.chan_walk.proofs.Names.{AreClear, Bool, ccw_of, Changes, data_of, Fields, first_place}
-use Rattle.chan_walk.proofs.Names.{HasFault, inl, inr, IsArgumentByte, IsCcwByte, IsClear}
-use Rattle.chan_walk.proofs.Names.{IsGuarded, IsPath, IsReachable, IsVerdict, Job, kind_of, List}
-use Rattle.chan_walk.proofs.Names.{Offends, Place, Reason, rules, Some, Stands, storage_of}
-use Rattle.chan_walk.proofs.Names.{StoresOver, subst, sym, Takes, true, Yes, ℕ, [], ◌<◌, ◌↔◌, ◌∙◌}
-use Rattle.chan_walk.proofs.Names.{◌∷◌, ◌≡◌, ◌≤◌, ◌⊎◌}
+use Rattle.chan_walk.proofs.Names.{AreClear, Bool, ccw_of, ChangesGuarded, data_of, Fields}
+use Rattle.chan_walk.proofs.Names.{first_place, HasFault, inl, inr, IsArgumentByte, IsCcwByte}
+use Rattle.chan_walk.proofs.Names.{IsClear, IsGuarded, IsPath, IsReachable, IsVerdict, Job, kind_of}
+use Rattle.chan_walk.proofs.Names.{List, Offends, Place, Reason, rules, Some, Stands, storage_of}
+use Rattle.chan_walk.proofs.Names.{StoresOver, subst, sym, TakesArgumentByte, true, Yes, ℕ, [], ◌<◌}
+use Rattle.chan_walk.proofs.Names.{◌↔◌, ◌∙◌, ◌∷◌, ◌≡◌, ◌≤◌, ◌⊎◌}
 use Rattle.ccw_core.specs.Areas.{end_of}
 use Rattle.chan_walk.specs.declared.verdict.Verdict.{Verdict}
 use Rattle.chan_walk.specs.declared.verdict.Verdict.TheVariants.{No}
@@ -16,7 +16,7 @@ pub record CarriesOver (j k : Job) (p : Place) : Type 0 where
   pub stands : Stands (storage_of j) p.address → Stands (storage_of k) p.address
   pub clear : IsClear j p → IsClear k p
   pub ccw : IsClear j p → ccw_of j p ≡ ccw_of k p
-  pub takes : IsClear j p → (b : ℕ) → Takes (storage_of j) p b → Takes (storage_of k) p b
+  pub takes : IsClear j p → (b : ℕ) → TakesArgumentByte (storage_of j) p b → TakesArgumentByte (storage_of k) p b
 
 -- q comes after p, whose CCW is c
 abbrev LeadsOn : Place → Place → Fields → Type 0
@@ -75,7 +75,7 @@ module _ (j k : Job) (on : (p : Place) → IsReachable j p → IsReachable k p �
   stores_over : (p : Place) → ccw_of j p ≡ ccw_of k p → (P Q : ℕ → Type 0) → ((b : ℕ) → P b → Q b) → StoresOver j p P → StoresOver k p Q
   stores_over p same P Q f o = search rules
 
-  pub changes_over : (p : Place) (r : Reason) → IsReachable j p → IsClear j p → Changes j p r → Changes k p r
+  pub changes_over : (p : Place) (r : Reason) → IsReachable j p → IsClear j p → ChangesGuarded j p r → ChangesGuarded k p r
   changes_over p r m clear (inl o) = inl (o.0, stores_over p ((on p m).1.ccw clear) _ _ ccw_byte_over o.1)
   changes_over p r m clear (inr o) = inr (o.0, stores_over p ((on p m).1.ccw clear) _ _ argument_byte_over o.1)
 

@@ -51,7 +51,7 @@ fn explains_deck(alloc: Global, deck: &str, at: Option<u32>, text: &str) -> bool
         return false;
     };
     let job = deck.job();
-    // That names the type which a job holds, for the borrow checker.
+    // For the checker alone: it asks for the type of what is borrowed.
     let _storage: Storage = job.storage;
     explains_job(alloc, &job, at, text)
 }

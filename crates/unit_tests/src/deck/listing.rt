@@ -46,7 +46,7 @@ fn holds_of_deck(alloc: Global, text: &[u8], question: Question) -> bool {
         return false;
     };
     let job = deck.job();
-    // That names the type which a job holds, for the borrow checker.
+    // For the checker alone: it asks for the type of what is borrowed.
     let _storage: Storage<'_> = job.storage;
     holds_of_job(alloc, &job, question)
 }

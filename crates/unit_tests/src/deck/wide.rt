@@ -62,7 +62,7 @@ fn is_listed(alloc: Global, deck: &str, text: &str) -> bool {
         return false;
     };
     let job = deck.job();
-    // That names the type which a job holds, for the borrow checker.
+    // For the checker alone: it asks for the type of what is borrowed.
     let _storage: Storage = job.storage;
     is_listed_job(alloc, &job, text)
 }

@@ -6,7 +6,7 @@ use crate::run::devices::Broken;
 use crate::shared::{Paper, expect, paper_of};
 use ccw_core::Watched;
 use chan_args::{Action, Explained};
-use chan_run::{Failure, Naming, Outcome, Response, answer, deliver, ends_run};
+use chan_run::{Failure, Naming, Outcome, Response, deliver, ends_run, judge_deck};
 use std::alloc::Global;
 
 /// A No Operation, with areas that it doesn't use.
@@ -67,7 +67,7 @@ fn is_answered(alloc: Global, case: &Case) -> bool {
         name: case.name,
         is_among: false,
     };
-    let found = answer(alloc, naming, action, &mut from, &mut to, &mut errors);
+    let found = judge_deck(alloc, naming, action, &mut from, &mut to, &mut errors);
     found == case.outcome
         && to.into_inner().left.is_empty()
         && errors.failed() == case.is_cut_off

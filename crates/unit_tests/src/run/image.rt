@@ -5,8 +5,8 @@
 use crate::run::devices::Broken;
 use crate::shared::{expect, paper_of};
 use ccw_core::Watched;
-use chan_args::{AskedJob, ImageWords};
-use chan_run::{Failure, ImageOptions, Outcome, answer_image, options_of};
+use chan_args::{ImageWords, RequestedJob};
+use chan_run::{Failure, ImageOptions, Outcome, make_deck, options_of};
 use std::alloc::{AllocError, Global};
 
 /// A No Operation, after two bytes of the image.
@@ -35,7 +35,7 @@ end
 ";
 
 /// Two bytes before the program, for which 16 bytes are lent for fetching.
-fn words(alloc: Global, job: AskedJob) -> Result<ImageWords<'static>, AllocError> {
+fn words(alloc: Global, job: RequestedJob) -> Result<ImageWords<'static>, AllocError> {
     Ok(ImageWords {
         device: "2314",
         mask: "00",
@@ -60,7 +60,7 @@ struct Made<'a> {
 
 /// Whether this comes of the image when a read fails, with the job that is said or with the least.
 /// A write after the text fails.
-fn is_made(alloc: Global, job: AskedJob, failing: usize, made: &Made) -> bool {
+fn is_made(alloc: Global, job: RequestedJob, failing: usize, made: &Made) -> bool {
     let Ok(words) = words(alloc, job) else {
         return false;
     };
@@ -78,7 +78,7 @@ fn is_answered(alloc: Global, options: &ImageOptions, failing: usize, made: &Mad
     });
     let mut to = Watched::new(paper_of(made.text));
     let mut errors = Watched::new(paper_of(made.said));
-    let found = answer_image(
+    let found = make_deck(
         alloc,
         Some("a.bin"),
         options,
@@ -100,7 +100,7 @@ fn each_read_of_an_image_failing_in_turn(rt: HostRuntime) {
     for failing in 0..IMAGE.len() + 1 {
         expect(
             &rt,
-            is_made(rt.alloc(), AskedJob::Named, failing, &refused),
+            is_made(rt.alloc(), RequestedJob::Named, failing, &refused),
             "read",
         );
     }
@@ -117,7 +117,7 @@ fn each_write_of_a_deck_failing_in_turn(rt: HostRuntime) {
         };
         expect(
             &rt,
-            is_made(rt.alloc(), AskedJob::Named, usize::MAX, &front),
+            is_made(rt.alloc(), RequestedJob::Named, usize::MAX, &front),
             "write",
         );
     }
@@ -128,7 +128,7 @@ fn each_write_of_a_deck_failing_in_turn(rt: HostRuntime) {
     };
     expect(
         &rt,
-        is_made(rt.alloc(), AskedJob::Named, usize::MAX, &whole),
+        is_made(rt.alloc(), RequestedJob::Named, usize::MAX, &whole),
         "whole",
     );
 }
@@ -143,7 +143,7 @@ fn the_least_job_beside_another(rt: HostRuntime) {
     };
     expect(
         &rt,
-        is_made(rt.alloc(), AskedJob::Least, usize::MAX, &least),
+        is_made(rt.alloc(), RequestedJob::Least, usize::MAX, &least),
         "least",
     );
 }

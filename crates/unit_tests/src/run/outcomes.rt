@@ -1,6 +1,6 @@
 //! The report of an outcome, also over a writer that fails.
 //!
-//! The lines and statuses of the commands are seen from outside, in `tests/faults.py`.
+//! The lines and statuses of the commands are seen from outside, in `tests/command_lines.py`.
 
 use crate::shared::{expect, paper_of};
 use ccw_core::Watched;

@@ -1,4 +1,4 @@
-//! Whether a program may start by the rows of its needs.
+//! Whether a program may start by the lists of its needs.
 
 ghost use Rattle.chan_walk.specs.JobSurvey.{IsSurvey};
 
@@ -34,15 +34,12 @@ fn are_surveyed(alloc: Global, open: &Job, survey: &Survey, job: &Job) -> bool
 }
 
 fn are_so(alloc: Global, needs: &Needs, job: &Job) -> bool {
-    let Ok(extents) = needs.extent_rows(alloc) else {
-        return false;
-    };
     let mut kept = [0; 24];
     if copy_kept(&job.storage, &needs.keep, &mut kept) != Some(24) {
         return false;
     }
     let program = Remembered {
-        rows: needs.rows(&extents),
+        needs: needs.lists(),
         kept: &kept,
         start: job.start,
         device: 2314,

@@ -4,7 +4,7 @@ use crate::shared::expect;
 use crate::walk::program::{Program, Question, SEARCH_LOOP, USUAL, holds};
 use ccw_core::{Area, Storage};
 use chan_needs::{
-    Conflict, Extent, Remembered, Rows, Start, StartRefusal, copy_kept, kept_len, may_start,
+    Conflict, Extent, NeedLists, Remembered, Start, StartRefusal, copy_kept, kept_len, may_start,
     may_write, or_empty,
 };
 use chan_walk::Job;
@@ -17,7 +17,7 @@ fn area(start: u32, len: u32) -> Area {
 /// A program in flight that stores into some areas and keeps others.
 fn flight<'a>(store: &'a [Area], keep: &'a [Area]) -> Remembered<'a> {
     Remembered {
-        rows: Rows {
+        needs: NeedLists {
             extents: &[],
             fetch: &[],
             store,
@@ -58,7 +58,7 @@ pub(crate) fn is_answered(alloc: Global, job: &Job, right: usize, answer: Start)
     let len = if right > 7 { 80 } else { 0xFFFF_FFFF };
     let store = [area(0xA08, 8), area(0xA00, len)];
     let program = Remembered {
-        rows: Rows {
+        needs: NeedLists {
             extents: or_empty(&cylinders),
             fetch: &fetch,
             store: &store,
@@ -89,8 +89,8 @@ static ANSWERS: [Start; 11] = [
     Start::No(StartRefusal::Cylinder(20)),
     Start::No(StartRefusal::Fetch(0x910)),
     Start::No(StartRefusal::Store(0xB00)),
-    Start::No(StartRefusal::Beside(1, Conflict::Stores(0xA4F))),
-    Start::No(StartRefusal::Beside(1, Conflict::Keeps(0x817))),
+    Start::No(StartRefusal::Conflict(1, Conflict::Stores(0xA4F))),
+    Start::No(StartRefusal::Conflict(1, Conflict::Keeps(0x817))),
     Start::Yes,
 ];
 

@@ -1,7 +1,7 @@
 use Rattle.std.proofs.Common.{◌∙◌, ◌≡◌, List, [], ap, map, rules, string_bytes, subst, sym, true}
 use Rattle.clap.specs.Walk.{Text}
 use Rattle.chan_args.proofs.TakenLines.{taken_is_known}
-use Rattle.chan_args.specs.CommandLine.{AsksFor, IsKnown, IsAccepted}
+use Rattle.chan_args.specs.CommandLine.{IsRequestOf, IsKnownCommand, IsAccepted}
 use Rattle.chan_args.specs.Lines.{chanv}
 use Rattle.chan_args.proofs.Names.{App, ArgMatches, HasKind, HasMatchesOf, fault_of, is_simple}
 use Rattle.chan_args.proofs.Names.{is_simple_and_free, subcommand_of, subcommand_rows_of}
@@ -20,7 +20,7 @@ request_of-requires c =
     let words : List Text = map string_bytes c.args.words.now in
     let met = met_of _ words c.in_ok-matches.matches c.in_ok-command.ensures
     c.in_ok-matches.ensures.matches in
-    subst IsKnown (sym met) (taken_is_known words
+    subst IsKnownCommand (sym met) (taken_is_known words
     (taken_of _ words c.in_ok-command.ensures c.in_ok-matches.ensures.kinds))
 
 pub returns-clause-taken : goal.returns-clause-taken
@@ -31,7 +31,7 @@ pub returns-clause-asked : goal.returns-clause-asked
 returns-clause-asked c =
     let met = met_of _ (map string_bytes c.args.words.now) c.in_ok-matches.matches
     c.in_ok-command.ensures c.in_ok-matches.ensures.matches in
-    subst (λ m. AsksFor m c.in_ok-request_of.field-0) met c.in_ok-request_of.ensures
+    subst (λ m. IsRequestOf m c.in_ok-request_of.field-0) met c.in_ok-request_of.ensures
 
 pub returns-in_err-matches-clause-err : goal.returns-in_err-matches-clause-err
 returns-in_err-matches-clause-err c =

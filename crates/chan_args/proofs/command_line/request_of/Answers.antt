@@ -1,9 +1,8 @@
-use Rattle.std.proofs.Common.{◌∙◌, ◌≡◌, List, None, Option, Some, ap₂, inl, refl, subst, sym}
-use Rattle.std.proofs.Common.{IfOk}
+use Rattle.std.proofs.Common.{◌∙◌, ◌≡◌, List, None, Option, Some, ap₂, inl, refl, subst, sym, IfOk}
 use Rattle.clap.specs.Walk.{Row, Text}
 use Rattle.clap.specs.Words.{subcommand_name_of}
 use Rattle.chan_args.specs.declared.action.Action.TheVariants as actions
-use Rattle.chan_args.specs.CommandLine.{AsksFor, IsKnown, name_met}
+use Rattle.chan_args.specs.CommandLine.{IsRequestOf, IsKnownCommand, name_met}
 use Rattle.chan_args.specs.declared.command_line.Request.TheVariants.{Run}
 use Rattle.chan_args.proofs.Names.{ArgMatches, found_of, option_map, rows_of, subcommand_rows_of}
 use Rattle.chan_args.proofs.command_line.request_of.Goals as goal
@@ -39,16 +38,16 @@ request_named-requires c =
     let at = c.in-Some in
     let is = is_pair (subcommand_rows_of c.args.matches.now) at.name.now (rows_of (found_of at.inner.now))
     (at.ensures.name ∙ name_same c.args.matches.now) at.ensures.rows in
-    subst IsKnown is c.requires
+    subst IsKnownCommand is c.requires
 
 pub returns-in-Some : goal.returns-in-Some
 returns-in-Some c =
     let at = c.in-Some in
     let is = is_pair (subcommand_rows_of c.args.matches.now) at.name.now (rows_of (found_of at.inner.now))
     (at.ensures.name ∙ name_same c.args.matches.now) at.ensures.rows in
-    subst (λ m. IfOk c.request_named.result (AsksFor m)) (sym is) c.request_named.ensures
+    subst (λ m. IfOk c.request_named.result (IsRequestOf m)) (sym is) c.request_named.ensures
 
 pub returns-in-None : goal.returns-in-None
 returns-in-None c =
     let is = nothing_is (subcommand_rows_of c.args.matches.now) c.in-None.ensures.rows in
-    subst (λ m. AsksFor m (Run actions.Verify)) (sym is) (refl, (refl, inl refl), tt)
+    subst (λ m. IsRequestOf m (Run actions.Verify)) (sym is) (refl, (refl, inl refl), tt)

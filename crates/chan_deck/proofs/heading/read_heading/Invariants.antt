@@ -1,10 +1,10 @@
 use Rattle.std.proofs.Common.{length}
-use Rattle.chan_deck.specs.Reading.{ReadsOn, Opening, begun_state}
+use Rattle.chan_deck.specs.Reading.{ReadingGoesOn, Opening, begun_state}
 use Rattle.chan_deck.proofs.heading.read_heading.Given as goal
 
 -- the cursor stands after what was said
 abbrev pub invariant-loop-more : goal.invariant-loop-more
-invariant-loop-more l = ReadsOn Opening l.fn.cursor (begun_state l.begun) l.cursor
+invariant-loop-more l = ReadingGoesOn Opening l.fn.cursor (begun_state l.begun) l.cursor
 
 abbrev pub decreases-loop-more : goal.decreases-loop-more
 decreases-loop-more l = length l.cursor.rest.now

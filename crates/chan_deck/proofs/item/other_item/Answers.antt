@@ -5,7 +5,7 @@ use Rattle.chan_deck.proofs.item.other_item.Goals as goal
 pub returns : goal.returns
 returns c = ((λ e. absurd cc), other)
   where
-    other : (j : Rattle.chan_deck.specs.Item.Item) → Rattle.chan_deck.specs.Item.Says c.args.line.now j → ⊥
+    other : (j : Rattle.chan_deck.specs.Item.Item) → Rattle.chan_deck.specs.Item.LineSays c.args.line.now j → ⊥
     other (fetch a) says = c.in_default-area_of.ensures a says.0 says.1
     other (store a) says = c.in_default-area_of-2.ensures a says.0 says.1
     other (extent a b) says = c.in_default.ensures a b says

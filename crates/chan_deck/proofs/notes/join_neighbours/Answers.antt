@@ -2,13 +2,14 @@ use Rattle.std.proofs.Common.{◌≡◌, ◌∙◌, ◌∷◌, [], ◌++◌, ap,
 use Rattle.std.proofs.Common.{drop, drop-cons, get_or, length, true, false, ◌+◌, ◌<◌, ◌≤◌}
 use Rattle.std.proofs.lemmas.List.{drop_all}
 use Rattle.ccw_core.specs.declared.areas.Area.{Area}
-use Rattle.chan_deck.specs.Notes.{adjoin, joined_from, together}
+use Rattle.chan_deck.specs.Notes.{areas_adjoin, joined_from, joined_area}
 use Rattle.chan_deck.proofs.notes.join_neighbours.Goals as goal
-use Rattle.chan_deck.proofs.notes.join_neighbours.Goals.{then-adjoin, else-adjoin+in_ok-push}
+use Rattle.chan_deck.proofs.notes.join_neighbours.Goals.{then-areas_adjoin}
+use Rattle.chan_deck.proofs.notes.join_neighbours.Goals.{else-areas_adjoin+in_ok-push}
 
 -- an area that adjoins goes into the run
 in_run : (runs whole rest : List Area) (run next : Area) (i : ℕ) (d : Area) → i < length rest
-    → adjoin run (get_or rest i d) ≡ true → next ≡ together run (get_or rest i d)
+    → areas_adjoin run (get_or rest i d) ≡ true → next ≡ joined_area run (get_or rest i d)
     → runs ++ joined_from run (drop i rest) ≡ whole → runs ++ joined_from next (drop (i + 1) rest) ≡ whole
 in_run runs whole rest run next i d lt beside e before =
     let step : joined_from next (drop (i + 1) rest) ≡ joined_from run (drop i rest) = rw (add-one, drop-cons rest i d lt, beside, e) in
@@ -16,7 +17,7 @@ in_run runs whole rest run next i d lt beside e before =
 
 -- another ends the run, and begins one
 begins_run : (runs more whole rest : List Area) (run next : Area) (i : ℕ) (d : Area) → i < length rest
-    → adjoin run (get_or rest i d) ≡ false → next ≡ get_or rest i d → more ≡ runs ++ (run ∷ [])
+    → areas_adjoin run (get_or rest i d) ≡ false → next ≡ get_or rest i d → more ≡ runs ++ (run ∷ [])
     → runs ++ joined_from run (drop i rest) ≡ whole → more ++ joined_from next (drop (i + 1) rest) ≡ whole
 begins_run runs more whole rest run next i d lt apart e held before =
     let step : run ∷ joined_from next (drop (i + 1) rest) ≡ joined_from run (drop i rest) = rw (add-one, drop-cons rest i d lt, apart, e) in
@@ -28,15 +29,15 @@ last_run : (runs whole rest : List Area) (run : Area) (i : ℕ) → length rest 
 last_run runs whole rest run i past before = ap (λ t. runs ++ joined_from run t) (sym (drop_all i rest past)) ∙ before
 
 pub loop-area-preserved : goal.loop-area-preserved
-loop-area-preserved c = elim c.if-adjoin.branch [
-  | then-adjoin w ↦
+loop-area-preserved c = elim c.if-areas_adjoin.branch [
+  | then-areas_adjoin w ↦
       rw w.runs-is
-      (in_run c.loop-area.runs.items _ c.in-Some.rest.now c.loop-area.run c.if-adjoin.run c.loop-area.area-index _ c.loop-area-test.true
-      (sym c.adjoin.ensures ∙ w.if-adjoin.true) w.run-is c.loop-area.invariant)
-  | else-adjoin+in_ok-push w ↦
+      (in_run c.loop-area.runs.items _ c.in-Some.rest.now c.loop-area.run c.if-areas_adjoin.run c.loop-area.area-index _ c.loop-area-test.true
+      (sym c.areas_adjoin.ensures ∙ w.if-areas_adjoin.true) w.run-is c.loop-area.invariant)
+  | else-areas_adjoin+in_ok-push w ↦
       rw w.runs-is
-      (begins_run c.loop-area.runs.items w.push.new.self.items _ c.in-Some.rest.now c.loop-area.run c.if-adjoin.run c.loop-area.area-index _
-      c.loop-area-test.true (sym c.adjoin.ensures ∙ w.if-adjoin.false) w.run-is w.in_ok-push.ensures.items c.loop-area.invariant)
+      (begins_run c.loop-area.runs.items w.push.new.self.items _ c.in-Some.rest.now c.loop-area.run c.if-areas_adjoin.run c.loop-area.area-index _
+      c.loop-area-test.true (sym c.areas_adjoin.ensures ∙ w.if-areas_adjoin.false) w.run-is w.in_ok-push.ensures.items c.loop-area.invariant)
 ]
 
 pub returns : goal.returns

@@ -1,7 +1,7 @@
 -- The text so far grew by the notes so far.
 use Rattle.std.proofs.Common.{string_bytes}
-use Rattle.chan_deck.specs.Notes.{GrewBy}
+use Rattle.chan_deck.specs.Notes.{HasNotesAdded}
 use Rattle.chan_deck.proofs.notes.push_areas.Given as goal
 
 abbrev pub invariant-loop-run : goal.invariant-loop-run
-invariant-loop-run l = GrewBy l.run-index (string_bytes l.fn.out) (string_bytes l.out)
+invariant-loop-run l = HasNotesAdded l.run-index (string_bytes l.fn.out) (string_bytes l.out)

@@ -1,7 +1,7 @@
 -- The text so far grew by the notes so far.
 use Rattle.std.proofs.Common.{string_bytes}
-use Rattle.chan_deck.specs.Notes.{GrewBy}
+use Rattle.chan_deck.specs.Notes.{HasNotesAdded}
 use Rattle.chan_deck.proofs.notes.push_ccws.Given as goal
 
 abbrev pub invariant-loop-address : goal.invariant-loop-address
-invariant-loop-address l = GrewBy l.address-index (string_bytes l.fn.out) (string_bytes l.out)
+invariant-loop-address l = HasNotesAdded l.address-index (string_bytes l.fn.out) (string_bytes l.out)

@@ -1,7 +1,7 @@
 -- The text so far grew by the notes so far.
 use Rattle.std.proofs.Common.{string_bytes}
-use Rattle.chan_deck.specs.Notes.{GrewBy}
+use Rattle.chan_deck.specs.Notes.{HasNotesAdded}
 use Rattle.chan_deck.proofs.notes.push_spare.Given as goal
 
 abbrev pub invariant-loop-number : goal.invariant-loop-number
-invariant-loop-number l = GrewBy l.number-index (string_bytes l.fn.out) (string_bytes l.out)
+invariant-loop-number l = HasNotesAdded l.number-index (string_bytes l.fn.out) (string_bytes l.out)

@@ -2,7 +2,7 @@ use Rattle.std.proofs.Common.{◌≡◌, ◌∙◌, ◌+◌, ◌++◌, ap, lengt
 use Rattle.std.proofs.Common.{rules}
 use Rattle.std.specs.Int.{next_multiple_of}
 use Rattle.std.proofs.lemmas.List.{take_at}
-use Rattle.chan_deck.specs.Parts.{zeros}
+use Rattle.chan_deck.specs.PartsImage.{zeros}
 use Rattle.chan_deck.proofs.PartLemmas.{storage_fits, storage_is}
 use Rattle.chan_deck.proofs.parts.place_image.Goals as goal
 

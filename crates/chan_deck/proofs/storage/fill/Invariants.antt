@@ -1,6 +1,6 @@
 use Rattle.std.proofs.Common.{◌≡◌, ◌≤◌, ◌-◌, ℕ, List, [], length, take, drop, replicate}
 use Rattle.ccw_core.specs.declared.areas.Area.{Area}
-use Rattle.chan_deck.specs.Reading.{Filling, ReadsOn}
+use Rattle.chan_deck.specs.Reading.{Filling, ReadingGoesOn}
 use Rattle.chan_deck.specs.declared.heading.Heading.{Heading}
 use Rattle.chan_deck.proofs.storage.fill.Given as goal
 
@@ -8,7 +8,7 @@ use Rattle.chan_deck.proofs.storage.fill.Given as goal
 abbrev pub invariant-loop-address : goal.invariant-loop-address
 invariant-loop-address l = record {
   told : (h : Heading) (es : List (ℕ × ℕ)) (fs ss : List Area)
-      → ReadsOn (Filling h es fs ss (length l.fn.storage) []) l.fn.cursor
+      → ReadingGoesOn (Filling h es fs ss (length l.fn.storage) []) l.fn.cursor
       (Filling h es fs ss (length l.storage) (take l.next l.storage)) l.cursor;
   behind : drop l.next l.storage ≡ replicate (length l.storage - l.next) 0;
   within : l.next ≤ length l.storage;

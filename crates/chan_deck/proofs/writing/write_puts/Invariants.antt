@@ -1,7 +1,8 @@
-use Rattle.std.proofs.Common.{◌≡◌, ◌+◌, ◌++◌, ◌/◌, ◌≤◌, ◌^◌, length, map}
+use Rattle.std.proofs.Common.{◌≡◌, ◌+◌, ◌++◌, ◌/◌, ◌≤◌, length, map}
 use Rattle.chan_deck.specs.Item.{line, text}
 use Rattle.chan_deck.specs.Image.{puts}
 use Rattle.chan_deck.proofs.writing.write_puts.Given as goal
+use Rattle.ccw_core.specs.declared.ccw.TheConstants.{STORAGE_LIMIT}
 
 -- what is written and what is left to write are all
 abbrev pub invariant-loop-rest : goal.invariant-loop-rest
@@ -9,7 +10,7 @@ invariant-loop-rest l = record {
   told :
       l.out.items ++ text (map line (puts (length l.rest / 8) l.address l.rest))
       ≡ l.fn.out.items ++ text (map line (puts (length l.bytes / 8) l.at l.bytes));
-  fits : l.address + length l.rest ≤ 2 ^ 24;
+  fits : l.address + length l.rest ≤ STORAGE_LIMIT;
 }
 
 abbrev pub decreases-loop-rest : goal.decreases-loop-rest

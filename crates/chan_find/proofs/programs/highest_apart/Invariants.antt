@@ -1,10 +1,10 @@
-use Rattle.chan_find.specs.Trails.{IsSettled}
+use Rattle.chan_find.specs.Trails.{IsFullyCovered}
 use Rattle.chan_find.proofs.Passing.{IsDownTo, IsRest}
 use Rattle.chan_find.proofs.programs.highest_apart.Given as goal
 
 abbrev pub invariant-loop-start : goal.invariant-loop-start
 invariant-loop-start l = record {
-  settled : IsSettled l.job l.covered;
+  settled : IsFullyCovered l.job l.covered;
   rest : IsRest l.job l.rest.items;
   down : IsDownTo l.job l.covered.marks.bytes.items l.rest.items l.kept.items;
 }

@@ -14,10 +14,10 @@ returns-clause-starts c = ok_as c.starts_of.result _ _ (λ v h j over.
     let is = c.job.ensures.open i (c.in_ok-open.ensures i over.storage refl over.device (search)) in
     starts_alike c.job.result (open_job j) v.items (open_alike j c.job.result is) h) c.starts_of.ensures
 
-pub returns-clause-apart : goal.returns-clause-apart
-returns-clause-apart c =
+pub returns-clause-separate : goal.returns-clause-separate
+returns-clause-separate c =
     ok_as c.starts_of.result _ _
-    (λ v h j over a b one other. c.programs_are_apart.ensures (open_job j) a b ((h j over).only a one) ((h j over).only b other))
+    (λ v h j over a b one other. c.programs_are_separate.ensures (open_job j) a b ((h j over).only a one) ((h j over).only b other))
     (returns-clause-starts c)
 
 pub returns-clause-yes : goal.returns-clause-yes

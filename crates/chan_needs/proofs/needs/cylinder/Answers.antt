@@ -1,7 +1,7 @@
 use Rattle.chan_needs.proofs.Names.{ap, cylinder_of, option_map, Some, subst, sym, ◌∙◌}
 use Rattle.ckd_core.specs.Entries.{entry_of}
 use Rattle.chan_walk.specs.declared.argument.GivenBytes.{GivenBytes}
-use Rattle.chan_walk.specs.Read.{whole_of}
+use Rattle.chan_walk.specs.Operand.{whole_of}
 use Rattle.chan_needs.proofs.Seeking.{GoesTo, goes_by_none, goes_by_other, goes_home, goes_seeking}
 use Rattle.chan_needs.proofs.Seeking.{is_other, is_seek_of}
 use Rattle.chan_needs.proofs.needs.cylinder.Goals as goal
@@ -15,7 +15,7 @@ pub returns-in_err-argument-in-Seek : goal.returns-in_err-argument-in-Seek
 returns-in_err-argument-in-Seek c j look clear =
     let seen = sym c.command.ensures ∙ ap (option_map entry_of) c.in_ok-command.was in
     let class = is_seek_of c.class.result c.in-Seek.is in
-    let read = ap (option_map (λ (g : GivenBytes). g.bytes)) (sym (ap whole_of c.read.ensures) ∙ sym c.whole.ensures ∙ c.in_err-argument-in-Seek.was) in
+    let read = ap (option_map (λ (g : GivenBytes). g.bytes)) (sym (ap whole_of c.operand.ensures) ∙ sym c.whole.ensures ∙ c.in_err-argument-in-Seek.was) in
     subst (GoesTo j c.args.look.now.place) (ap (option_map cylinder_of) read ∙ sym c.from_residual-in_err-argument-in-Seek.ensures)
     (goes_seeking j c.args.look.now look clear (entry_of c.in_ok-command.field-0) seen (rw (sym c.class.ensures) class.0) (rw (sym c.class.ensures) class.1))
 
@@ -23,7 +23,7 @@ pub returns-in_ok-argument-in-Seek : goal.returns-in_ok-argument-in-Seek
 returns-in_ok-argument-in-Seek c j look clear =
     let seen = sym c.command.ensures ∙ ap (option_map entry_of) c.in_ok-command.was in
     let class = is_seek_of c.class.result c.in-Seek.is in
-    let read = ap (option_map (λ (g : GivenBytes). g.bytes)) (sym (ap whole_of c.read.ensures) ∙ sym c.whole.ensures ∙ c.in_ok-argument-in-Seek.was) in
+    let read = ap (option_map (λ (g : GivenBytes). g.bytes)) (sym (ap whole_of c.operand.ensures) ∙ sym c.whole.ensures ∙ c.in_ok-argument-in-Seek.was) in
     subst (GoesTo j c.args.look.now.place) (ap (option_map cylinder_of) read ∙ ap Some (sym c.from_be_bytes.ensures))
     (goes_seeking j c.args.look.now look clear (entry_of c.in_ok-command.field-0) seen (rw (sym c.class.ensures) class.0) (rw (sym c.class.ensures) class.1))
 

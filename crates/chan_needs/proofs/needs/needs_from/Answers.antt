@@ -4,6 +4,8 @@ use Rattle.chan_walk.specs.Moved.{IsFetchedFrom}
 use Rattle.chan_walk.proofs.Algorithms.Listing.{first_is_verdict}
 use Rattle.chan_needs.proofs.Needed.{are_needs, survey_looks}
 use Rattle.chan_needs.proofs.needs.needs_from.Goals as goal
+use Rattle.chan_needs.specs.Listed.{pair}
+use Rattle.std.proofs.Common.{ap, map}
 
 pub returns : goal.returns
 returns c j one =
@@ -15,9 +17,9 @@ returns c j one =
       storage_len = c.len.ensures.value;
       mask = c.needed_mask.ensures k are;
       sought = c.in_ok-sought.ensures.cylinders k are;
-      runs = c.in_ok-runs.ensures;
+      runs = ap (map pair) c.in_ok-runs.ensures;
       fetch = subst (AreExactly (IsFetchedFrom k)) (sym c.into_areas.ensures.areas) (c.in_ok-data_moved.ensures k are.looks are.reached);
       store = subst (AreExactly (IsStoredInto k)) (sym c.into_areas-2.ensures.areas) (c.in_ok-data_moved-2.ensures k are.looks are.reached);
       keep = subst (AreExactly (IsGuarded k)) (sym c.into_areas-3.ensures.areas)
-          (c.in_ok-kept.ensures k (subst (λ (g : GuardAreas). Guards k g) (sym c.guard.ensures) c.requires.survey.guard));
+          (c.in_ok-guarded_areas.ensures k (subst (λ (g : GuardAreas). Guards k g) (sym c.guard.ensures) c.requires.survey.guard));
     })

@@ -7,9 +7,9 @@ use Rattle.chan_needs.proofs.start.may_start.Goals as goal
 pub returns-in-Some-first_changed-clause-exact : goal.returns-in-Some-first_changed-clause-exact
 returns-in-Some-first_changed-clause-exact c =
     let p = c.args.program.now in
-    let changed = rw (c.or_empty-keep.ensures, c.or_empty-kept.ensures) at c.in-Some-first_changed.ensures in (
+    let changed = rw (c.keep.ensures, c.kept.ensures) at c.in-Some-first_changed.ensures in (
       (λ e. absurd cc),
-      λ fit. absurd (never_changed (storage_of c.args.job.now) p.rows.keep.now p.kept.now c.in-Some-first_changed.address changed fit.kept),
+      λ fit. absurd (never_changed (storage_of c.args.job.now) p.needs.keep.now p.kept.now c.in-Some-first_changed.address changed fit.kept),
     )
 
 pub returns-in-None-clause-well : goal.returns-in-None-clause-well

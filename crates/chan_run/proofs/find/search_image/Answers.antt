@@ -7,7 +7,7 @@ returns-in-Ok-clause-answer g c =
     inl (record {
       image = c.in-Ok.image.bytes.items;
       input = c.in-Ok.ensures.ok;
-      came = c.write_programs.result.0;
+      outcome = c.write_programs.result.0;
       found = searched.answer;
       note = c.write_programs.result.1.now;
       noted = searched.note;

@@ -4,7 +4,7 @@ use Rattle.std.proofs.lemmas.List.{take_all}
 use Rattle.std.specs.Io.KnownBytes.{Appends}
 use Rattle.ccw_core.proofs.Prefixes.{prefix_after}
 use Rattle.ccw_core.specs.Held.{bytes_held}
-use Rattle.chan_deck.specs.Parts.{storage_with}
+use Rattle.chan_deck.specs.PartsImage.{storage_with}
 use Rattle.chan_run.specs.Find.{IsLineAt}
 use Rattle.chan_run.proofs.FoundLemmas.{lines_more, starts_over}
 use Rattle.chan_run.proofs.find.write_programs.Goals as goal

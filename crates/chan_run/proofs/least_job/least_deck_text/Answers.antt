@@ -1,6 +1,6 @@
 use Rattle.std.proofs.Common.{◌≡◌, refl, rules}
 use Rattle.std.proofs.lemmas.Result.{IfOk-weaker}
-use Rattle.chan_needs.specs.Rows.{listed}
+use Rattle.chan_needs.specs.Listed.{listed}
 use Rattle.chan_walk.specs.Job.{storage_of}
 use Rattle.chan_run.proofs.LeastLemmas.{begins_low, granting_is_yes}
 use Rattle.chan_run.proofs.least_job.least_deck_text.Goals as goal
@@ -18,6 +18,6 @@ returns c =
     IfOk-weaker c.granting_text.result _ _ (λ text spelled. record {
       needed = n;
       needs = c.requires;
-      spelled = rw (bytes, c.unusual.ensures) at spelled;
+      spelled = rw (bytes, c.unusual_limit.ensures) at spelled;
       yes = granting_is_yes j n c.requires (search rules);
     }) c.granting_text.ensures

@@ -1,5 +1,5 @@
 use Rattle.std.proofs.Common.{ap}
-use Rattle.chan_needs.specs.Rows.{listed}
+use Rattle.chan_needs.specs.Listed.{listed}
 use Rattle.chan_deck.proofs.PartLemmas.{storage_fits}
 use Rattle.chan_run.specs.Output.{granting_just}
 use Rattle.chan_run.proofs.LeastLemmas.{least_asked}

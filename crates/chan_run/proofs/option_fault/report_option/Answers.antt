@@ -13,7 +13,7 @@ returns-clause-said g c =
         front = a.now ++ (b.now ++ n.bytes);
         end = m.now ++ h.bytes;
         read = c.reading-number.ensures;
-        meant = c.correction-how.ensures;
+        decimal_meant = c.correction-how.ensures;
         is = fault_parts fault.option fault.text.now c.usage-usage.result.now a.now b.now n.bytes fault.why.now m.now h.bytes
             texts.MORE.now c.usage-usage.ensures;
       },

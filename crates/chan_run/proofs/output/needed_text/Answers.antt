@@ -2,7 +2,7 @@ use Rattle.std.proofs.Common.{◌∙◌, ◌≡◌, ap, refl, string_bytes, sym,
 use Rattle.std.proofs.lemmas.Result.{IfOk-weaker}
 use Rattle.chan_walk.specs.declared.verdict.Verdict.TheVariants.{No, Yes}
 use Rattle.chan_walk.specs.Offence.{first_verdict}
-use Rattle.chan_needs.specs.Rows.{listed}
+use Rattle.chan_needs.specs.Listed.{listed}
 use Rattle.chan_run.proofs.NeedLemmas.{needs_extents}
 use Rattle.chan_run.proofs.output.needed_text.Goals as goal
 

@@ -1,4 +1,4 @@
-use Rattle.chan_walk.proofs.Algorithms.Counted.{same_verdict}
+use Rattle.chan_walk.proofs.Algorithms.VerdictBytes.{same_verdict}
 use Rattle.chan_walk.proofs.laws.same_verdict.Goals as goal
 
 pub returns : goal.returns

@@ -1,4 +1,4 @@
-use Rattle.chan_walk.proofs.Names.{Adds, ap, arith, first_place, inl, inr, IsWalked, Job, List}
+use Rattle.chan_walk.proofs.Names.{AddsPlace, ap, arith, first_place, inl, inr, IsWalked, Job, List}
 use Rattle.chan_walk.proofs.Names.{Place, places_of_looks, refl, Some, subst, sym, ℕ, [], ◌<◌, ◌∙◌}
 use Rattle.chan_walk.proofs.Names.{◌∷◌, ◌≡◌}
 use Rattle.chan_walk.specs.Walk.{IsTraced}
@@ -12,7 +12,7 @@ record IsAlone (n : ℕ) (p : Place) (qs : List Place) (gs : List ℕ) : Type 0 
   from : gs ≡ 0 ∷ []
   room : 0 < n
 
-alone : (n : ℕ) (p : Place) (ps qs : List Place) (fs gs : List ℕ) → ps ≡ [] → fs ≡ [] → Adds n (Some p) 0 ps qs fs gs → IsAlone n p qs gs
+alone : (n : ℕ) (p : Place) (ps qs : List Place) (fs gs : List ℕ) → ps ≡ [] → fs ≡ [] → AddsPlace n (Some p) 0 ps qs fs gs → IsAlone n p qs gs
 alone n p [] qs [] gs e f (inl a) = absurd a.0
 alone n p [] qs [] gs e f (inr a) = record { places = a.1; from = a.3; room = a.2 }
 alone n p (q ∷ ps) qs fs gs e f a = absurd (cc)

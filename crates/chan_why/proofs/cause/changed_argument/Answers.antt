@@ -4,7 +4,7 @@ use Rattle.chan_walk.specs.declared.place.Place.{Place}
 use Rattle.chan_areas.specs.Merged.{IsLeastOrNone, IsByteIn}
 use Rattle.chan_walk.specs.Guard.{GuardAreas, Guards, IsArgumentByteOf}
 use Rattle.chan_walk.specs.Look.{Seen, places_of_looks}
-use Rattle.chan_walk.specs.Read.{whole_of}
+use Rattle.chan_walk.specs.Operand.{whole_of}
 use Rattle.chan_why.specs.Path.{IsFirstWhere}
 use Rattle.chan_why.proofs.Changing.{first_within, found_least, one_argument, one_taker, taken_at}
 use Rattle.chan_why.proofs.Changing.{taken_whole}
@@ -58,5 +58,5 @@ returns c j s clear =
       refl,
       least,
       taken_at j ls c.args.survey.now.found_from s.found c.unwrap-byte.result c.unwrap.result c.place.result.address c.whole.result l first within there address
-          (taken_whole j l look c.unwrap-byte.result c.whole.result (c.whole.ensures ∙ ap whole_of c.read.ensures)),
+          (taken_whole j l look c.unwrap-byte.result c.whole.result (c.whole.ensures ∙ ap whole_of c.operand.ensures)),
     )

@@ -10,7 +10,7 @@ use Rattle.chan_walk.specs.Evidence.{IsOwnFault, reason_of}
 use Rattle.chan_walk.specs.Guard.{GuardAreas, Guards}
 use Rattle.chan_walk.specs.Look.{IsLook, Seen}
 use Rattle.chan_walk.specs.Place.{ccw_of, data_at, data_of}
-use Rattle.chan_walk.specs.Verdict.{AreClear, Changes, Offends}
+use Rattle.chan_walk.specs.Verdict.{AreClear, ChangesGuarded, Offends}
 use Rattle.chan_walk.proofs.Algorithms.Looking.{ccw_seen, none_shown, own_clear, own_faulty}
 use Rattle.chan_walk.proofs.Theory.Faults.{clear_stands}
 use Rattle.chan_why.specs.Cause.{IsArgumentIn, IsCause, IsCcwIn}
@@ -20,7 +20,7 @@ use Rattle.chan_why.proofs.cause.evidence_at.Goals as goal
 
 -- a place that offends without an own fault: its CCW is seen, and it changes what is guarded
 changer : (j : Job) (l : Seen) (r : Reason) → IsLook j l → Offends j l.place r → (f : Option Evidence) → f ≡ l.fault
-    → f ≡ None → (o : Option Fields) → o ≡ l.ccw → (o ≡ Some (ccw_of j l.place)) × AreClear j × Changes j l.place r
+    → f ≡ None → (o : Option Fields) → o ≡ l.ccw → (o ≡ Some (ccw_of j l.place)) × AreClear j × ChangesGuarded j l.place r
 changer j l r look off f is none o same =
     let clear = own_clear j l.place (subst (IsOwnFault j l.place) (sym is ∙ none) look.fault) in
     let change = offends_by_change j l.place r clear off in

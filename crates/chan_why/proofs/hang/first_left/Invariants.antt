@@ -1,6 +1,6 @@
 use Rattle.chan_walk.specs.Look.{places_of_looks}
-use Rattle.chan_why.specs.Hang.{IsFirstPlace, IsLeft}
+use Rattle.chan_why.specs.Hang.{IsFirstPlace, IsLeftUnmarked}
 use Rattle.chan_why.proofs.hang.first_left.Given as goal
 
 abbrev pub invariant-loop-at : goal.invariant-loop-at
-invariant-loop-at l = IsFirstPlace (IsLeft (places_of_looks l.looks) l.marks l.at) l.first
+invariant-loop-at l = IsFirstPlace (IsLeftUnmarked (places_of_looks l.looks) l.marks l.at) l.first

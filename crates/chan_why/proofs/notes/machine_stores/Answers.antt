@@ -11,8 +11,8 @@ pub returns : goal.returns
 returns c j guards =
     let areas = c.as_slice-areas.result.now in
     record {
-      kept = areas;
-      guarded = subst (AreExactly (IsGuarded j)) (sym c.as_slice-areas.ensures.areas) (c.in_ok-kept.ensures j guards);
+      guarded = areas;
+      are_guarded = subst (AreExactly (IsGuarded j)) (sym c.as_slice-areas.ensures.areas) (c.in_ok-guarded.ensures j guards);
       are = record {
         is_used = has_machine_byte;
         right = machine_right;

@@ -1,7 +1,7 @@
 use Rattle.std.proofs.Common.{◌≡◌, ◌<◌, List, get_or, length, subst, sym}
 use Rattle.chan_walk.specs.Look.{Seen, places_of_looks}
 use Rattle.chan_why.specs.Path.{IsFirstWhere}
-use Rattle.chan_why.specs.Witness.{IsLike}
+use Rattle.chan_why.specs.Witness.{HasLikeOffence}
 use Rattle.chan_why.proofs.Changing.{first_within}
 use Rattle.chan_why.proofs.Explaining.{case_there, look_there, offending_there, some_found}
 use Rattle.chan_why.proofs.Indexing.{like_found}
@@ -19,8 +19,9 @@ bounds-looks-at c =
     let s = c.args.survey.now in
     let o = c.args.offence in
     let like = like_found s.looks s.offences o c.args.finder.now.offenders c.offender.result c.requires.finds.offenders c.offender.ensures in
-    let first = subst (IsFirstWhere (IsLike s.offences o) (places_of_looks s.looks)) c.unwrap-at.ensures like in
-    subst (λ (ls : List Seen). c.unwrap-at.result < length ls) (sym c.looks-looks.ensures) (first_within (IsLike s.offences o) s.looks c.unwrap-at.result first)
+    let first = subst (IsFirstWhere (HasLikeOffence s.offences o) (places_of_looks s.looks)) c.unwrap-at.ensures like in
+    subst (λ (ls : List Seen). c.unwrap-at.result < length ls) (sym c.looks-looks.ensures)
+    (first_within (HasLikeOffence s.offences o) s.looks c.unwrap-at.result first)
 
 pub evidence_at-requires-clause-offends : goal.evidence_at-requires-clause-offends
 evidence_at-requires-clause-offends c =
@@ -29,7 +30,7 @@ evidence_at-requires-clause-offends c =
     let s = c.args.survey.now in
     let o = c.args.offence in
     let like = like_found s.looks s.offences o c.args.finder.now.offenders c.offender.result c.requires.finds.offenders c.offender.ensures in
-    let first = subst (IsFirstWhere (IsLike s.offences o) (places_of_looks s.looks)) c.unwrap-at.ensures like in
+    let first = subst (IsFirstWhere (HasLikeOffence s.offences o) (places_of_looks s.looks)) c.unwrap-at.ensures like in
     let l = c.index-looks-at.result in
     let seen = subst (λ (ls : List Seen). l ≡ get_or ls c.unwrap-at.result l) c.looks-looks.ensures c.index-looks-at.is in (
       j,
@@ -43,15 +44,15 @@ returns-clause-within c =
     let s = c.args.survey.now in
     let o = c.args.offence in
     let like = like_found s.looks s.offences o c.args.finder.now.offenders c.offender.result c.requires.finds.offenders c.offender.ensures in
-    first_within (IsLike s.offences o) s.looks c.unwrap-at.result
-    (subst (IsFirstWhere (IsLike s.offences o) (places_of_looks s.looks)) c.unwrap-at.ensures like)
+    first_within (HasLikeOffence s.offences o) s.looks c.unwrap-at.result
+    (subst (IsFirstWhere (HasLikeOffence s.offences o) (places_of_looks s.looks)) c.unwrap-at.ensures like)
 
 pub returns-clause-case : goal.returns-clause-case
 returns-clause-case c j is =
     let s = c.args.survey.now in
     let o = c.args.offence in
     let like = like_found s.looks s.offences o c.args.finder.now.offenders c.offender.result c.requires.finds.offenders c.offender.ensures in
-    let first = subst (IsFirstWhere (IsLike s.offences o) (places_of_looks s.looks)) c.unwrap-at.ensures like in
+    let first = subst (IsFirstWhere (HasLikeOffence s.offences o) (places_of_looks s.looks)) c.unwrap-at.ensures like in
     let l = c.index-looks-at.result in
     let seen = subst (λ (ls : List Seen). l ≡ get_or ls c.unwrap-at.result l) c.looks-looks.ensures c.index-looks-at.is in
     let listed = c.requires.listed.2 in

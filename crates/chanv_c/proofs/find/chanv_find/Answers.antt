@@ -15,4 +15,4 @@ returns-clause-found c = λ is.
     let held : bytes_held c.in-Ok.storage ≡ c.args.storage.now.bytes.now = search rules in
     let starts = c.in-Ok-program_starts.found.items in
     let are = starts_in c.args.storage.now.bytes.now _ c.args.device c.in-Some.device starts held (search rules) c.in-Ok-program_starts.ensures.starts in
-    (starts, are, search rules, rw c.deref.ensures.value at c.write_starts.ensures)
+    (starts, are, search rules, rw c.deref.ensures.value at c.write_list.ensures)

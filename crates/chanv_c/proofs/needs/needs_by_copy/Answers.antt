@@ -5,5 +5,5 @@ use Rattle.chanv_c.proofs.needs.needs_by_copy.Goals as goal
 
 pub returns-in-Err-clause-number : goal.returns-in-Err-clause-number
 returns-in-Err-clause-number c = λ _.
-    rw (c.code.ensures, c.alone-in-Err.ensures, c.extent.ensures)
+    rw (c.code.ensures, c.without_needs-in-Err.ensures, c.extent.ensures)
     (refusal_number (HasTooManyOpenly c.args.job.now) c.args.job.now c.in-Err.refusal c.in-Err.ensures.refusal)

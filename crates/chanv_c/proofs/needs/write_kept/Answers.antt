@@ -7,6 +7,7 @@ use Rattle.chan_needs.specs.Remembered.{IsInside, bytes_in}
 use Rattle.chan_needs.proofs.Inside.{total_copied}
 use Rattle.chanv_c.specs.declared.refusal.JobFault.TheVariants.{StorageTooLarge}
 use Rattle.chanv_c.proofs.needs.write_kept.Goals as goal
+use Rattle.ccw_core.specs.declared.ccw.TheConstants.{STORAGE_LIMIT}
 
 at_most : (n m : ℕ) → (n < m → ⊥) → m ≤ n
 at_most n m not = go (cases_lt n m)
@@ -17,7 +18,7 @@ at_most n m not = go (cases_lt n m)
 
 pub unwrap-storage-requires : goal.unwrap-storage-requires
 unwrap-storage-requires c =
-    let small = at_most 16777216 (length c.args.asked.now.storage.now) (c.requires.right StorageTooLarge) in
+    let small = at_most STORAGE_LIMIT (length c.args.asked.now.storage.now) (c.requires.right StorageTooLarge) in
     c.new.ensures.ok.1 (rw c.or_empty.ensures small)
 
 pub unwrap-count-requires : goal.unwrap-count-requires

@@ -4,15 +4,15 @@ use Rattle.chan_walk.specs.declared.place.Place.{Place}
 use Rattle.chan_walk.specs.declared.verdict.Verdict.{Verdict}
 use Rattle.chan_walk.specs.declared.verdict.Verdict.TheVariants.{Yes}
 use Rattle.chanv_c.specs.Answers.{HasTooMany, IsJudged}
-use Rattle.chanv_c.specs.Why.{LacksRows, IsWrittenTo}
+use Rattle.chanv_c.specs.Why.{HasLittleRoomFor, IsWrittenTo}
 use Rattle.chanv_c.proofs.Refusals.{refusal_number}
 use Rattle.chanv_c.proofs.why.chanv_why.Goals as goal
-use Rattle.chanv_c.proofs.why.chanv_why.Goals.{then-lacks_rows-via-then-lacks_rows}
-use Rattle.chanv_c.proofs.why.chanv_why.Goals.{then-lacks_rows-via-else-lacks_rows+then-lacks_rows-2}
+use Rattle.chanv_c.proofs.why.chanv_why.Goals.{then-has_little_room-via-then-has_little_room}
+use Rattle.chanv_c.proofs.why.chanv_why.Goals.{then-has_little_room-via-else-has_little_room+then-has_little_room-2}
 
 pub returns-in-Err-clause-number : goal.returns-in-Err-clause-number
 returns-in-Err-clause-number c =
-    rw (c.code.ensures, c.nothing.ensures, c.extent.ensures)
+    rw (c.code.ensures, c.no_explanation_for_c.ensures, c.extent.ensures)
     (refusal_number (HasTooMany c.args.job.now) c.args.job.now c.in-Err.refusal c.in-Err.ensures.refusal)
 
 pub returns-in-Yes-clause-yes : goal.returns-in-Yes-clause-yes
@@ -23,24 +23,24 @@ returns-in-Yes-clause-yes c =
 never_yes : (v w : Verdict) → v ≡ w → (w ≡ Yes → ⊥) → v ≢ Yes
 never_yes v w e n = λ y. n (sym e ∙ y)
 
-pub returns-then-lacks_rows-clause-room : goal.returns-then-lacks_rows-clause-room
-returns-then-lacks_rows-clause-room c = λ _. (
+pub returns-then-has_little_room-clause-room : goal.returns-then-has_little_room-clause-room
+returns-then-has_little_room-clause-room c = λ _. (
   c.in-Ok.found,
-  record { explanation = c.in-Ok.ensures.answer; offends = never_yes c.in-Ok.found.verdict _ c.in-No.is (λ e. cc); out_is = c.told.ensures },
-  elim c.then-lacks_rows.branch [
-    | then-lacks_rows-via-then-lacks_rows w ↦ inl (
-        subst (λ (l : List Place). LacksRows l c.args.path.now) c.as_slice-first.ensures.value
-        (c.lacks_rows.ensures.0 w.if-lacks_rows.true))
-    | then-lacks_rows-via-else-lacks_rows+then-lacks_rows-2 w ↦ inr (
-        subst (λ (l : List Place). LacksRows l c.args.second_path.now) c.as_slice-second.ensures.value
-        (w.lacks_rows-else-lacks_rows.ensures.0 w.if-lacks_rows-2.true))
+  record { explanation = c.in-Ok.ensures.answer; offends = never_yes c.in-Ok.found.verdict _ c.in-No.is (λ e. cc); out_is = c.explanation_for_c.ensures },
+  elim c.then-has_little_room.branch [
+    | then-has_little_room-via-then-has_little_room w ↦ inl (
+        subst (λ (l : List Place). HasLittleRoomFor l c.args.path.now) c.as_slice-first.ensures.value
+        (c.has_little_room.ensures.0 w.if-has_little_room.true))
+    | then-has_little_room-via-else-has_little_room+then-has_little_room-2 w ↦ inr (
+        subst (λ (l : List Place). HasLittleRoomFor l c.args.second_path.now) c.as_slice-second.ensures.value
+        (w.has_little_room-else-has_little_room.ensures.0 w.if-has_little_room-2.true))
   ],
 )
 
 pub returns-clause-no : goal.returns-clause-no
 returns-clause-no c = λ _. (
   c.in-Ok.found,
-  record { explanation = c.in-Ok.ensures.answer; offends = never_yes c.in-Ok.found.verdict _ c.in-No.is (λ e. cc); out_is = c.told.ensures },
-  subst (λ (l : List Place). IsWrittenTo l c.args.path.now c.write_wanted.new.rows) c.as_slice-first.ensures.value c.write_wanted.ensures,
-  subst (λ (l : List Place). IsWrittenTo l c.args.second_path.now c.write_wanted-2.new.rows) c.as_slice-second.ensures.value c.write_wanted-2.ensures,
+  record { explanation = c.in-Ok.ensures.answer; offends = never_yes c.in-Ok.found.verdict _ c.in-No.is (λ e. cc); out_is = c.explanation_for_c.ensures },
+  subst (λ (l : List Place). IsWrittenTo l c.args.path.now c.write_wanted.new.room) c.as_slice-first.ensures.value c.write_wanted.ensures,
+  subst (λ (l : List Place). IsWrittenTo l c.args.second_path.now c.write_wanted-2.new.room) c.as_slice-second.ensures.value c.write_wanted-2.ensures,
 )

@@ -6,10 +6,11 @@ use Rattle.ckd_core.proofs.CylinderLemmas.{nat_lt-zero, nat_lt-ord_max, reached_
 use Rattle.ckd_core.proofs.CylinderLemmas.{reached_below-zero, reached_below-next}
 use Rattle.ckd_core.proofs.CylinderLemmas.{reached_below-has_cylinder}
 use Rattle.ckd_core.proofs.extents.held_cylinders.Goals as goal
+use Rattle.ckd_core.specs.declared.device.TheConstants.{CYLINDERS}
 
 pub loop-cylinder-init : goal.loop-cylinder-init
 loop-cylinder-init c = record {
-  whole = length-replicate 203 false;
+  whole = length-replicate CYLINDERS false;
   end_right = λ x. nat_lt-zero x ∙ sym (reached_below-zero c.args.pairs.now x);
   held_right = λ k h. absurd (omega arith);
 }

@@ -1,5 +1,5 @@
 use Rattle.std.proofs.Common.{◌≡◌, ◌+◌, ℕ, List, refl, subst}
-use Rattle.chan_deck.specs.Item.{Reads, said_by}
+use Rattle.chan_deck.specs.Item.{LineReads, said_by}
 use Rattle.chan_deck.specs.Reading.{IsDeckError, refusal}
 use Rattle.chan_deck.specs.declared.cause.Cause.{Cause}
 use Rattle.chan_deck.specs.declared.error.DeckError.TheVariants as errors
@@ -9,7 +9,7 @@ use Rattle.chan_deck.proofs.RefusalLemmas.{takes, refuses_line, refuses_end}
 use Rattle.chan_deck.proofs.lines.Cursor.next_item.Goals as goal
 
 -- what was read of a line is refused at that line
-at_line : (n : ℕ) (l : List ℕ) (i : Item) (cause : Cause) → Reads l i → errors.At n cause ≡ refusal n i cause
+at_line : (n : ℕ) (l : List ℕ) (i : Item) (cause : Cause) → LineReads l i → errors.At n cause ≡ refusal n i cause
 at_line n l Missing cause reads = absurd (reads.0 refl)
 at_line n l i cause reads = refl
 

@@ -5,7 +5,7 @@ use Rattle.chan_walk.proofs.Algorithms.Walking.{reached_all}
 use Rattle.chan_walk.proofs.job_survey.Survey.into_parts.Goals as goal
 
 pub in_order-requires : goal.in_order-requires
-in_order-requires c = (subst (IsSurvey c.requires.0) (sym c.self.view_is) c.requires.1).found.walked.apart
+in_order-requires c = (subst (IsSurvey c.requires.0) (sym c.self.view_is) c.requires.1).found.walked.distinct
 
 pub returns-clause-looks : goal.returns-clause-looks
 returns-clause-looks c j s l h = (subst (IsSurvey j) (sym c.self.view_is) s).found.looks l ((c.in_order.ensures.same l).0 h)

@@ -1,8 +1,8 @@
-use Rattle.chan_walk.proofs.Names.{Adds, Agrees, arith, bit_at, Bool, both_ways, BTreeMap, false}
-use Rattle.chan_walk.proofs.Names.{Has, inr, length, List, marks_of, Option, Place, places_of_looks}
-use Rattle.chan_walk.proofs.Names.{subst, sym, way_of, ℕ, ◌<◌, ◌↔◌, ◌≡◌, ◌≤◌}
+use Rattle.chan_walk.proofs.Names.{AddsPlace, MarksAgree, arith, bit_at, Bool, both_ways, BTreeMap}
+use Rattle.chan_walk.proofs.Names.{false, Has, inr, length, List, marks_of, Option, Place}
+use Rattle.chan_walk.proofs.Names.{places_of_looks, subst, sym, way_of, ℕ, ◌<◌, ◌↔◌, ◌≡◌, ◌≤◌}
 use Rattle.std.proofs.Common.{IsTrue}
-use Rattle.chan_walk.specs.Walk.{Overflows}
+use Rattle.chan_walk.specs.Walk.{HasNoRoomFor}
 use Rattle.chan_walk.proofs.Algorithms.Looking.{looks_push, number_of_places, places_push}
 use Rattle.chan_walk.proofs.Algorithms.Marks.{agrees_push}
 use Rattle.chan_walk.proofs.walk.Walk.add.Goals as goal
@@ -23,7 +23,7 @@ returns-in_ok-mark-clause-agrees c =
 abbrev IsNew : List Place → Place → Type 0
 IsNew ps p = Has ps p → ⊥
 
-unmarked : (m : BTreeMap ℕ ℕ) (ps : List Place) (p : Place) (bits : ℕ) (b : Bool) → Agrees m ps
+unmarked : (m : BTreeMap ℕ ℕ) (ps : List Place) (p : Place) (bits : ℕ) (b : Bool) → MarksAgree m ps
     → bits ≡ marks_of m p.address → IsTrue b ↔ (bit_at bits (way_of p) ≡ 1) → b ≡ false → IsNew ps p
 unmarked m ps p bits b agrees same is e h = both_ways b e (is.1 (rw same ((agrees p).1 h)))
 
@@ -35,7 +35,7 @@ returns-in_ok-mark-clause-ok c =
     c.requires.agrees c.bits_at-bits.ensures c.is_marked.ensures c.if-not-is_marked.true in
     let places = places_push c.look_by.result p s.looks.items c.push.new.self.items c.in_ok-push.ensures.items c.look_by.ensures.place in
     let room : length (places_of_looks s.looks.items) < c.args.job.now.limit = omega (arith, number_of_places s.looks.items, s.looks.ok.0) in
-    subst (λ (o : Option Place). Adds c.args.job.now.limit o c.args.from (places_of_looks s.looks.items)
+    subst (λ (o : Option Place). AddsPlace c.args.job.now.limit o c.args.from (places_of_looks s.looks.items)
     (places_of_looks c.push.new.self.items) s.found_from.items c.push-then-not-is_marked.new.self.items)
     (sym c.in-Some.is) (inr (new, places, room, c.in_ok-push-2.ensures.items))
 
@@ -46,4 +46,4 @@ returns-then-len-get-clause-many c e =
     let new = unmarked s.marks (places_of_looks s.looks.items) p c.bits_at-bits.result c.is_marked.result
     c.requires.agrees c.bits_at-bits.ensures c.is_marked.ensures c.if-not-is_marked.true in
     let full : c.args.job.now.limit ≤ length (places_of_looks s.looks.items) = omega (arith, number_of_places s.looks.items, s.looks.ok.0) in
-    subst (λ (o : Option Place). Overflows c.args.job.now.limit o (places_of_looks s.looks.items)) (sym c.in-Some.is) (new, full)
+    subst (λ (o : Option Place). HasNoRoomFor c.args.job.now.limit o (places_of_looks s.looks.items)) (sym c.in-Some.is) (new, full)

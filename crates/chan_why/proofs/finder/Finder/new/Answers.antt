@@ -14,5 +14,6 @@ offenders_of-requires-clause-seen c o listed =
     subst (λ (ls : List Seen). Has (places_of_looks ls) o.place) (sym c.looks-2.ensures)
     ((reached_all j c.args.survey.now.looks c.args.survey.now.found_from s.found).0 o.place (s.offences.only o of_job).0)
 
-pub offenders_of-requires-clause-apart : goal.offenders_of-requires-clause-apart
-offenders_of-requires-clause-apart c = subst (λ (ls : List Seen). AreDistinct (places_of_looks ls)) (sym c.looks-2.ensures) c.requires.1.found.walked.apart
+pub offenders_of-requires-clause-distinct : goal.offenders_of-requires-clause-distinct
+offenders_of-requires-clause-distinct c =
+    subst (λ (ls : List Seen). AreDistinct (places_of_looks ls)) (sym c.looks-2.ensures) c.requires.1.found.walked.distinct

@@ -9,37 +9,38 @@ use Rattle.chan_why.proofs.hang.Found.add_before.Goals as goal
 pub index-predecessor-requires : goal.index-predecessor-requires
 index-predecessor-requires c =
     let p = c.args.predecessors.now in
-    let low = below_end (length p.ends.items) _ c.loop-end.invariant.row.0 c.loop-end.end p.list.items c.loop-end.invariant.row.1 c.loop-end-test.true in
+    let low = below_end (length p.ends.items) _ c.loop-end.invariant.bucket.0 c.loop-end.end p.list.items c.loop-end.invariant.bucket.1 c.loop-end-test.true in
     omega (arith, low.1, p.list.ok.0)
 
 pub add-requires-clause-within : goal.add-requires-clause-within
 add-requires-clause-within c =
     let p = c.args.predecessors.now in
-    let low = below_end (length p.ends.items) _ c.loop-end.invariant.row.0 c.loop-end.end p.list.items c.loop-end.invariant.row.1 c.loop-end-test.true in
+    let low = below_end (length p.ends.items) _ c.loop-end.invariant.bucket.0 c.loop-end.end p.list.items c.loop-end.invariant.bucket.1 c.loop-end-test.true in
     let here = slice_get_read p.list.items _ (c.loop-end.end - 1) c.index-predecessor.result.now refl low.1 c.index-predecessor.ensures in
     omega (arith, c.loop-end.invariant.more.marked.len, c.requires.within _ (has_at p.list.items (c.loop-end.end - 1) _ here))
 
 pub loop-end-smaller : goal.loop-end-smaller
 loop-end-smaller c =
     let p = c.args.predecessors.now in
-    let row = c.loop-end.invariant.row in
-    let low = below_end (length p.ends.items) _ row.0 c.loop-end.end p.list.items row.1 c.loop-end-test.true in
+    let bucket = c.loop-end.invariant.bucket in
+    let low = below_end (length p.ends.items) _ bucket.0 c.loop-end.end p.list.items bucket.1 c.loop-end-test.true in
     let here = slice_get_read p.list.items _ (c.loop-end.end - 1) c.index-predecessor.result.now refl low.1 c.index-predecessor.ensures in
-    (row_before p (length p.ends.items) c.args.of row.0 c.loop-end.end c.index-predecessor.result.now refl c.requires.rows row.1 c.loop-end-test.true here).1
+    (row_before p (length p.ends.items) c.args.of bucket.0 c.loop-end.end c.index-predecessor.result.now refl
+    c.requires.buckets bucket.1 c.loop-end-test.true here).1
 
 pub loop-end-preserved : goal.loop-end-preserved
 loop-end-preserved c =
     let p = c.args.predecessors.now in
     let n = length c.args.self.now.marks.items in
     let x = c.index-predecessor.result.now in
-    let row = c.loop-end.invariant.row in
+    let bucket = c.loop-end.invariant.bucket in
     let more = c.loop-end.invariant.more in
-    let low = below_end (length p.ends.items) _ row.0 c.loop-end.end p.list.items row.1 c.loop-end-test.true in
+    let low = below_end (length p.ends.items) _ bucket.0 c.loop-end.end p.list.items bucket.1 c.loop-end-test.true in
     let here = slice_get_read p.list.items _ (c.loop-end.end - 1) x refl low.1 c.index-predecessor.ensures in
-    let before = row_before p (length p.ends.items) c.args.of row.0 c.loop-end.end x refl c.requires.rows row.1 c.loop-end-test.true here in
+    let before = row_before p (length p.ends.items) c.args.of bucket.0 c.loop-end.end x refl c.requires.buckets bucket.1 c.loop-end-test.true here in
     let one = subst (λ m. FindsMore m (λ k. (x.of ≡ c.args.of) × (x.at ≡ k)) c.loop-end.self c.add.new.self) more.marked.len c.in_ok-add.ensures in
     record {
-      row = (c.loop-end.end - 1, before.0);
+      bucket = (c.loop-end.end - 1, before.0);
       more =
           finds_as n (λ k. IsListed p.list.items c.args.of c.loop-end.end k ⊎ ((x.of ≡ c.args.of) × (x.at ≡ k)))
           (IsListed p.list.items c.args.of x.before) c.args.self.now c.add.new.self

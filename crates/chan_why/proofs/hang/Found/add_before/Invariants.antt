@@ -1,11 +1,12 @@
 use Rattle.std.proofs.Common.{ℕ, length, take}
-use Rattle.chan_why.specs.Hang.{EndsAt, FindsMore, row_of}
+use Rattle.chan_why.specs.Hang.{BucketEndsAt, FindsMore, bucket_of}
 use Rattle.chan_why.proofs.Retracing.{IsListed}
 use Rattle.chan_why.proofs.hang.Found.add_before.Given as goal
 
 abbrev pub invariant-loop-end : goal.invariant-loop-end
 invariant-loop-end l = record {
-  row : (m : ℕ) × EndsAt (length l.predecessors.ends.items) (row_of (length l.predecessors.ends.items) l.of) (take m l.predecessors.list.items) l.end;
+  bucket : (m : ℕ)
+      × BucketEndsAt (length l.predecessors.ends.items) (bucket_of (length l.predecessors.ends.items) l.of) (take m l.predecessors.list.items) l.end;
   more : FindsMore (length l.fn.self.marks.items) (IsListed l.predecessors.list.items l.of l.end) l.fn.self l.self;
 }
 

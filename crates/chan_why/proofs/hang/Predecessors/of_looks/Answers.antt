@@ -15,7 +15,7 @@ loop-at-preserved c =
     let next : c.map.result ≡ one_after l.next.next = search rules in
     let skip : c.map-in-loop-at.result ≡ one_after l.next.skip = search rules in
     record {
-      rows = c.in_ok-add-3.ensures.rows;
+      buckets = c.in_ok-add-3.ensures.buckets;
       are =
           before_more c.args.looks.now i l p q r t (slice_get_read c.args.looks.now _ i l refl c.loop-at-test.true c.index-looks-at.is) c.loop-at.invariant.are
           (subst (λ (o : Option ℕ). AddsPredecessor i o p q) c.end_after.ensures c.in_ok-add.ensures)

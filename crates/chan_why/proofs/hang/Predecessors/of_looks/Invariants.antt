@@ -1,8 +1,8 @@
-use Rattle.chan_why.specs.Hang.{ArePredecessors, AreRows}
+use Rattle.chan_why.specs.Hang.{ArePredecessors, AreBuckets}
 use Rattle.chan_why.proofs.hang.Predecessors.of_looks.Given as goal
 
 abbrev pub invariant-loop-at : goal.invariant-loop-at
 invariant-loop-at l = record {
-  rows : AreRows l.predecessors;
+  buckets : AreBuckets l.predecessors;
   are : ArePredecessors l.looks l.at l.predecessors.list.items;
 }

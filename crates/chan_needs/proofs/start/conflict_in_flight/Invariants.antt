@@ -1,0 +1,6 @@
+use Rattle.std.specs.List.{AllWithin}
+use Rattle.chan_needs.specs.Start.{IsCompatibleWith}
+use Rattle.chan_needs.proofs.start.conflict_in_flight.Given as goal
+
+abbrev pub invariant-loop-i : goal.invariant-loop-i
+invariant-loop-i l = AllWithin (IsCompatibleWith l.program) l.in_flight 0 l.i

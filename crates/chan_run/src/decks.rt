@@ -1,0 +1,215 @@
+//! Answering an input: what the program does with each.
+
+ghost use Rattle.std.specs.Prelude.{◌≡◌, ◌↔◌, ◌+◌, ◌≤◌, ◌^◌, IfOk, Some, false, length, true};
+ghost use Rattle.chan_run.specs.MadeDeck.{IsImageDelivered, IsImageInputResponse, IsImageResponse};
+ghost use Rattle.chan_run.specs.MadeDeck.{IsNoJobAdvice};
+ghost use Rattle.chan_run.specs.Name.{name_in};
+ghost use Rattle.chan_run.specs.Outcome.{IsDone, IsImageEnd, IsWriteFailure};
+ghost use Rattle.chan_run.specs.Response.{IsInputDelivered};
+ghost use Rattle.chan_run.specs.Texts.{WriterGot};
+ghost use Rattle.chan_run.specs.declared.failure.Failure.TheVariants as failures;
+ghost use Rattle.chan_run.specs.declared.outcome.Outcome.TheVariants.{Failed};
+ghost use Rattle.ccw_core.specs.declared.ccw.TheConstants.{STORAGE_LIMIT};
+
+use crate::beginning::image_notes;
+use crate::delivery::deliver;
+use crate::failure::Failure;
+use crate::image::{deck_text, read_image};
+use crate::image_note::deck_note;
+use crate::image_options::ImageOptions;
+use crate::name::Naming;
+use crate::no_job::no_job_text;
+use crate::outcome::Outcome;
+use crate::response::Response;
+use crate::status::respond_to_input;
+use crate::texts::write_bytes;
+use ccw_core::Watched;
+use chan_args::Action;
+use chan_walk::WalkError;
+use std::alloc::{AllocError, Global};
+use std::io::{Read, Write};
+
+/// Judges the deck of one input. The first writer gets the answer, the second what is said of it.
+///
+/// On the first writer stands the output of `respond`, and it is flushed where all of it was
+/// written. On the second stands the outcome's line, as `report` writes it, and the advice behind
+/// it; in its place may come the line that memory ran out, which doesn't change the outcome.
+///
+/// The input is read once. The outcome is that of `respond`, or why the input wasn't read, or a
+/// failed write. A second writer that fails doesn't change it, and a prefix was written there.
+pub fn judge_deck<R: Read, W: Write, E: Write>(
+    alloc: Global,
+    naming: Naming<'_>,
+    action: Action,
+    from: &mut Watched<R>,
+    to: &mut Watched<W>,
+    errors: &mut Watched<E>,
+) -> Outcome
+    requires reader { from.old.failed ≡ false }
+    requires writer { to.old.failed ≡ false }
+    requires errors { errors.old.failed ≡ false }
+    ensures answer { IsInputDelivered naming.entry action (R.remaining from.old.device)
+        (R.remaining from.new.device) (W.contents to.old.device) (W.contents to.new.device)
+        (E.contents errors.old.device) (E.contents errors.new.device) errors.new.failed result }
+    ensures early { (IsDone result → ⊥) → (IsWriteFailure result → ⊥) → to.new ≡ to.old }
+    ensures flushed { IsDone result → to.new.flushed ≡ true }
+    ensures read { result ≡ Failed failures.ReadFailed ↔ (from.new.failed ≡ true) }
+    ensures write { IsWriteFailure result ↔ (to.new.failed ≡ true) }
+{
+    let response = respond_to_input(alloc, naming, action, from);
+    deliver(naming.name, &response, to, errors)
+}
+
+/// What is said of a deck for which no device is named.
+const USUAL_DEVICE: &str = "note: no --device, so 2314\n";
+
+/// Names the usual device, for a deck without a named one. If the writer fails, it has a prefix.
+pub fn note_usual_device<E: Write>(errors: &mut Watched<E>)
+    requires { errors.old.failed ≡ false }
+    ensures said { WriterGot USUAL_DEVICE.now
+        (E.contents errors.old.device) (E.contents errors.new.device) errors.new.failed }
+{
+    let _ = write_bytes(USUAL_DEVICE.as_bytes(), errors);
+}
+
+/// Reads an image of storage to the end of the input, writes the one text of the deck that it makes
+/// with the options, and says what came of it. The deck's job is that of the options or, if they
+/// ask for it, the least job of the program, under which the verdict is yes.
+///
+/// Storage has the requested size, with zeros after the image; without a size it ends with the
+/// image. It has at most 16,777,216 bytes. Nothing is written before the whole image was read:
+/// after a failed write a prefix of the deck was written, after any other error nothing was. It
+/// returns over an endless reader, too, with `ImageTooLong`. If all was written, it flushes.
+///
+/// The second writer gets the outcome's line, as `report` writes it. If no job will do, it
+/// gets `no job will do: ` and the explanation of the verdict on the program's open job; a note
+/// names the options `--at` and `--storage` if these may cure it. If memory runs out for the
+/// explanation, the outcome says so. If the image is a deck, the last line is a note that says so.
+/// A second writer that fails doesn't change the outcome, and a prefix was written there.
+pub fn make_deck<R: Read, W: Write, E: Write>(
+    alloc: Global,
+    name: Option<&str>,
+    options: &ImageOptions,
+    from: &mut Watched<R>,
+    to: &mut Watched<W>,
+    errors: &mut Watched<E>,
+) -> Outcome
+    requires reader { from.old.failed ≡ false }
+    requires writer { to.old.failed ≡ false }
+    requires errors { errors.old.failed ≡ false }
+    ensures answer { IsImageDelivered (name_in name.entry) options.now
+        (R.remaining from.old.device) (R.remaining from.new.device)
+        (W.contents to.old.device) (W.contents to.new.device)
+        (E.contents errors.old.device) (E.contents errors.new.device) errors.new.failed result }
+    ensures early { (IsDone result → ⊥) → (IsWriteFailure result → ⊥) → to.new ≡ to.old }
+    ensures flushed { IsDone result → to.new.flushed ≡ true }
+    ensures read { result ≡ Failed failures.ReadFailed ↔ (from.new.failed ≡ true) }
+    ensures write { IsWriteFailure result ↔ (to.new.failed ≡ true) }
+{
+    let response = respond_to_image_input(alloc, name, options, from);
+    deliver(name, &response, to, errors)
+}
+
+/// Reads an image to the end of an input, and gives the answer to it, or why it wasn't read.
+fn respond_to_image_input<R: Read>(
+    alloc: Global,
+    name: Option<&str>,
+    options: &ImageOptions,
+    from: &mut Watched<R>,
+) -> Response
+    requires { from.old.failed ≡ false }
+    ensures answer { IsImageInputResponse (name_in name.entry) options.now
+        (R.remaining from.old.device) (R.remaining from.new.device) result }
+    ensures read { result.outcome ≡ Failed failures.ReadFailed ↔ (from.new.failed ≡ true) }
+    ensures unwritten { IsWriteFailure result.outcome → ⊥ }
+{
+    match read_image(alloc, options, from) {
+        Ok(image) => respond_to_image(alloc, name, options, image.bytes.as_slice(), image.given),
+        Err(failure) => Response {
+            outcome: Outcome::Failed(failure),
+            output: Vec::new(alloc),
+            advice: room_note(alloc, options, failure).ok(),
+            note: "",
+        },
+    }
+}
+
+/// For an image that ends past storage, the note on how much room there is. Tests hold it.
+fn room_note(
+    alloc: Global,
+    options: &ImageOptions,
+    failure: Failure,
+) -> Result<Vec<u8>, AllocError> {
+    let (at, Some(size)) = (options.at, options.size) else {
+        return Ok(Vec::new(alloc));
+    };
+    if failure != Failure::ImagePastStorage {
+        return Ok(Vec::new(alloc));
+    }
+    if at > size {
+        let text = format!(in alloc;
+            "note: the image begins at {at:06X}, past storage of {size:07X} bytes\n"
+        )?;
+        return Ok(text.into_bytes());
+    }
+    let room = size - at;
+    Ok(format!(in alloc;
+        "note: the image begins at {at:06X} and has more than {room:X} bytes, but storage has \
+         {size:07X}\n"
+    )?
+    .into_bytes())
+}
+
+/// Why no job will do for the program of an image, and the notes on the image.
+fn why_no_job(
+    alloc: Global,
+    name: Option<&str>,
+    options: &ImageOptions,
+    image: &[u8],
+    given: usize,
+) -> Result<Vec<u8>, WalkError>
+    requires { options.now.at + length image.now ≤ STORAGE_LIMIT }
+    ensures { IfOk result (λ why.
+        IsNoJobAdvice (name_in name.entry) options.now image.now (Some why.items)) }
+{
+    let mut why = no_job_text(alloc, name, options, image, given)?.into_bytes();
+    let notes = image_notes(alloc, options.at, image)?;
+    why.extend_from_slice(notes.as_slice())?;
+    Ok(why)
+}
+
+/// The answer to an image, of which so many bytes were read and zeros follow them.
+fn respond_to_image(
+    alloc: Global,
+    name: Option<&str>,
+    options: &ImageOptions,
+    image: &[u8],
+    given: usize,
+) -> Response
+    requires { options.now.at + length image.now ≤ STORAGE_LIMIT }
+    ensures answer { IsImageResponse (name_in name.entry) options.now image.now result }
+    ensures known { IsImageEnd result.outcome }
+{
+    let note = deck_note(image);
+    match deck_text(alloc, options, image) {
+        Ok(output) => Response {
+            outcome: Outcome::Done,
+            output,
+            advice: image_notes(alloc, options.at, image).ok(),
+            note,
+        },
+        Err(Outcome::NoJob { address, reason }) => {
+            // The same job was walked before, so this fails only for want of memory.
+            match why_no_job(alloc, name, options, image, given) {
+                Ok(why) => Response {
+                    outcome: Outcome::NoJob { address, reason },
+                    output: Vec::new(alloc),
+                    advice: Some(why),
+                    note,
+                },
+                Err(_) => Response::bare(alloc, Outcome::Failed(Failure::OutOfMemory), note),
+            }
+        }
+        Err(end) => Response::bare(alloc, end, note),
+    }
+}

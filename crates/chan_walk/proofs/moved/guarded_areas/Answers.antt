@@ -1,0 +1,20 @@
+use Rattle.chan_walk.proofs.Names.{All, ap, Area, EndsBelow, IfOk-weaker, List, rules, subst, sym}
+use Rattle.chan_walk.proofs.Names.{◌++◌, ◌^◌, ◌∙◌, ◌≡◌}
+use Rattle.std.proofs.lemmas.List.Elements.{All-append}
+use Rattle.chan_areas.proofs.Merging.{merged_both}
+use Rattle.chan_walk.proofs.moved.guarded_areas.Goals as goal
+
+pub new-requires : goal.new-requires
+new-requires c =
+    let ccws = c.ccw_ranges.result.now in
+    let arguments = c.argument_ranges.result.now in
+    let first : c.extend_from_slice.new.self.items ≡ ccws =
+    c.in_ok-extend_from_slice.ensures.items ∙ ap (λ (xs : List Area). xs ++ ccws) c.new-areas.ensures.items in
+    let both : c.extend_from_slice-2.new.self.items ≡ ccws ++ arguments =
+    c.in_ok-extend_from_slice-2.ensures.items ∙ ap (λ (xs : List Area). xs ++ arguments) first in
+    subst (All (EndsBelow (2 ^ 32))) (sym both) (All-append (EndsBelow (2 ^ 32)) ccws arguments c.ccw_ranges.ensures.low c.argument_ranges.ensures.low)
+
+pub returns : goal.returns
+returns c =
+    let g = c.args.guard.now in
+    IfOk-weaker c.new.result _ _ (λ (m : List Area) h j guards. merged_both g.ccws g.arguments _ m (search rules) h guards.ccws guards.arguments) c.new.ensures
