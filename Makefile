@@ -1,6 +1,6 @@
 # `make try DECK=..` judges a deck with nothing proved. `make` proves and builds chanv and runs it,
 # `make test` runs every proof and every test, and `make audit` shows that the proofs mean
-# something: it proves everything again, and tries mutants, which the prover has to refuse.
+# something: it proves everything from nothing, and tries mutants, which the prover has to refuse.
 # `make lib` builds the library for C. `make install PREFIX=/usr/local` copies what these two built
 # to where users expect it, the libraries to LIBDIR, and builds nothing; `make uninstall` removes it.
 # `make table` prints the contracts. `make rustc` needs no kit: from the same sources plain rustc
@@ -12,7 +12,6 @@ VERSION = 0.7.0
 
 # How many processors a proof may use; each takes up to 1.5 GB of memory.
 JOBS ?= $(shell nproc)
-HALF = $(shell expr \( $(JOBS) + 1 \) / 2)
 
 # The kit with which all was proved last, as `rt version` names it.
 KIT = rattle-kit-13f logic dac8208d650f15bf
@@ -21,26 +20,23 @@ KIT = rattle-kit-13f logic dac8208d650f15bf
 # all sources.
 LIBRARIES = ccw_core ckd_core chan_args chan_areas chan_walk chan_needs chan_why chan_deck chan_find chan_run
 
-# Two libraries are built at a time, and chan_args, which takes one processor, beside them, unless a
-# call of make has made that choice already.
-BESIDE = --jobs=3
-
 # The deck that `make try` explains the verdict on.
 DECK ?= examples/changes-argument.deck
 
 .PHONY: run libraries $(LIBRARIES) test audit proofs mutants unit_tests lib install uninstall try
-.PHONY: rustc table can_prove can_link can_test can_audit
+.PHONY: rustc table can_prove can_link can_test
 
 run: libraries
 	cd crates/chanv && rt run --jobs $(JOBS) < stdin
 	crates/chanv/out/chanv why examples/changes-itself.deck || test $$? -eq 1
 
 # What is missing is named at once, and not after a quarter of an hour.
-can_prove can_link can_test can_audit:
+can_prove can_link can_test:
 	@KIT='$(KIT)' CC='$(CC)' tests/tools $(@:can_%=%)
 
+# Two libraries are built at a time, and chan_args, which takes one processor, beside them.
 libraries: can_prove
-	$(MAKE) --no-print-directory $(BESIDE) $(LIBRARIES)
+	$(MAKE) --no-print-directory --jobs=3 $(LIBRARIES)
 
 $(LIBRARIES):
 	cd crates/$@ && rt lib --jobs $(JOBS)
@@ -72,24 +68,16 @@ table:
 test: can_test libraries
 	tests/run --all --jobs $(JOBS)
 
-# Both run at once, each with half of the processors: a proof reads for a while with one, and with
-# more processes than processors each takes longer.
-audit: can_audit
-	RT_JOBS=$(HALF) $(MAKE) --jobs=2 JOBS=$(HALF) BESIDE= proofs mutants
+# In a fresh checkout `make` and `make lib` then begin with what this built.
+audit: can_test
+	tests/audit.py
 
 mutants: run lib
 	tests/mutants.py --built
 
-# The kit's gate, from nothing. It gets a copy without must-fail/: to try mutants it would prove each
-# crate that has some once more, and tests/mutants.py begins with what was built. The lock tells
-# tests/mutants.py that half of the processors are taken. What stays is the program of the unit tests,
-# which tests/run would else have to prove once more.
-proofs:
-	mkdir -p out
-	copy=$$(mktemp -d) && trap 'rm -rf "$$copy"' EXIT && \
-	  tar -c --exclude=./.git --exclude=out --exclude=must-fail . | tar -x -C "$$copy" && \
-	  cd "$$copy" && flock "$(CURDIR)/out/proofs.lock" rt ci && \
-	  cp crates/unit_tests/out/unit_tests_tests "$(CURDIR)/out/unit_tests"
+# The kit's gate, from nothing: the first half of an audit.
+proofs: can_test
+	tests/audit.py --proofs
 
 # The program of the unit tests, which tests/refused_memory.py runs too.
 unit_tests: libraries

@@ -5,6 +5,8 @@
     tests/mutants.py CRATE..    only these
     tests/mutants.py --built    `make` and `make lib` built everything just now
 
+tests/audit.py tries them too, those of a crate as soon as `rt ci` has proved it.
+
 A mutant is an edit that makes the code or a definition wrong, so that the prover has to refuse it.
 Those that a rule or a law names are crates/CRATE/must-fail/NAME.edit, the others
 tests/mutants/CRATE/NAME.edit. `file:` and then pairs of `old:` and `new:` say what it changes. It
@@ -16,9 +18,9 @@ for comments:
     # refused-by: laws::yes_is_safe      for any other: the law or function that has to refuse it
 
 Each crate is first proved as it is, from what out/ has kept, unless --built says that this was just
-done. Then a copy gets a mutant in each of several functions, and only these functions are checked.
-Each has to be refused for a goal of its own: one that the search left open, or one whose written
-answer no longer shows it. If a mutant names goals, it has to be each of these; the copy leaves them
+done. Then a copy gets mutants of several functions, and only these functions are checked. Each has
+to be refused for a goal of its own: one that the search left open, or one whose written answer no
+longer shows it. If a mutant names goals, it has to be each of these; the copy leaves them
 to the search by name, because `rt check` would else look for what to offer, which takes as long
 again. A call of something that isn't proved, a proof that lost a name, and a text that isn't Rattle
 don't count. A mutant that such a thing hides is tried again without those that were refused with
@@ -29,8 +31,7 @@ The others are wrong definitions, with the code that computes them, and constant
 functions read. For each of these a copy is checked as far as the law or the function that has to
 refuse it, with the lemmas that its proof cites.
 
-A check runs on each processor. While another process holds out/proofs.lock, as `make proofs` does,
-half of the processors are left to it.
+A check runs on each processor, and gives way to other processes.
 
 It prints a line for each mutant, with the goals, those of the second sort as (answered), or with
 the first complaint, and the processor time of each check. The last line is `N refused, M failed`,
@@ -41,7 +42,6 @@ import argparse
 import collections
 import concurrent.futures
 import contextlib
-import fcntl
 import os
 import re
 import shutil
@@ -52,6 +52,8 @@ from pathlib import Path
 
 ROOT = Path(__file__).resolve().parent.parent
 CRATES, MUTANTS = ROOT / "crates", ROOT / "tests/mutants"
+# how many mutants a reading has: more take less of the processors, and leave some idle at the end
+MOST = 60
 # complaints about a text that can't be read, and more about one that rests on something missing
 UNREAD = re.compile(
     "is not in scope|has no field|is no name|operand is missing|expected the end|cannot continue"
@@ -121,7 +123,8 @@ def left_to_search(crate, mutant, texts):
 def called(words, folder, what):
     """The output of a command of `rt` in a crate's folder, and its status."""
     how = {"stdout": subprocess.PIPE, "stderr": subprocess.STDOUT, "stdin": subprocess.DEVNULL}
-    with subprocess.Popen(["rt", *words], cwd=folder, text=True, errors="replace", **how) as ran:
+    words = ["nice", "rt", *words]
+    with subprocess.Popen(words, cwd=folder, text=True, errors="replace", **how) as ran:
         said = ran.stdout.read()
         _, status, used = os.wait4(ran.pid, 0)
         ran.returncode = os.waitstatus_to_exitcode(status)
@@ -178,7 +181,12 @@ def check_with(crate, texts, functions, what):
         for file, text in texts.items():
             (copy / file).parent.mkdir(parents=True, exist_ok=True)
             (copy / file).write_text(text)
-        return called(["check", "--jobs=1", *only], copy, what)[0]
+        said = called(["check", "--jobs=1", *only], copy, what)[0]
+        # what this check kept serves the next ones, if the crate has nothing kept on this disk
+        with contextlib.suppress(OSError):
+            (CRATES / crate / "out").mkdir(exist_ok=True)
+            os.rename(copy / "out/incremental", CRATES / crate / "out/incremental")
+        return said
 
 
 def own_goals(mutant, line, said):
@@ -194,60 +202,73 @@ def own_goals(mutant, line, said):
     return found if set(mutant.goals) <= set(found) else []
 
 
-def tried(crate, mutants):
-    """Gives each mutant with the goals for which it is refused, or with none and the reason."""
-    batch, later, texts = [], [], {}
+def readings(crate, mutants):
+    """Shares out mutants of single functions, no two of a function or of a place to a reading.
+
+    Gives the mutants of each reading and the texts of files with all of them: no texts for one that
+    fits no file.
+    """
+    found = []
     for mutant in mutants:
-        more = applied(crate, mutant, texts)
-        if applied(crate, mutant, {}) is None:
-            yield mutant, [], UNFIT
-        elif more is None or mutant.function in [it.function for it in batch]:
-            later.append(mutant)
+        for group, texts in found:
+            more = applied(crate, mutant, texts)
+            functions = [it.function for it in group]
+            if more and texts and len(group) < MOST and mutant.function not in functions:
+                group.append(mutant)
+                texts.update(left_to_search(crate, mutant, more))
+                break
         else:
-            batch, texts = [*batch, mutant], left_to_search(crate, mutant, more)
-    functions = [mutant.function for mutant in batch]
-    what = f"{len(batch)} mutants"
-    said, hidden = check_with(crate, texts, functions, what) if batch else "", []
-    for mutant in batch:
+            texts = applied(crate, mutant, {})
+            found.append(([mutant], left_to_search(crate, mutant, texts) if texts else {}))
+    return found
+
+
+def tried(crate, mutants, texts):
+    """Gives each mutant with the goals for which it is refused, or with none and the reason."""
+    if not texts:
+        yield mutants[0], [], UNFIT
+        return
+    functions = [mutant.function for mutant in mutants]
+    said, hidden = check_with(crate, texts, functions, f"{len(mutants)} mutants"), []
+    for mutant in mutants:
         line = re.search(rf"(?m)^fn {re.escape(f'{crate}::{mutant.function}')}: (.*)", said)
         error = re.search(r"(?m)^.*\berror(\[[\w-]+\])?: .*", said)
         goals = own_goals(mutant, line[1], said) if line else []
-        if goals or len(batch) == 1 or line and line[1].startswith("proved"):
-            told = [it[0] for it in (line, len(batch) == 1 and error) if it]
+        if goals or len(mutants) == 1 or line and line[1].startswith("proved"):
+            told = [it[0] for it in (line, len(mutants) == 1 and error) if it]
             yield mutant, goals, "; ".join(told)[:240] or "`rt check` doesn't name its function"
         else:
             hidden.append(mutant)
-    again = [[it] for it in hidden] + [later] if hidden == batch else [hidden + later]
-    for mutants in filter(None, again):
-        yield from tried(crate, mutants)
+    for again in [[it] for it in hidden] if hidden == mutants else [hidden]:
+        for reading in readings(crate, again):
+            yield from tried(crate, *reading)
 
 
-def together(crate, mutants):
-    """Tries mutants of single functions: gives each name, whether it is refused, and why."""
-    for mutant, goals, why in tried(crate, mutants):
+def together(crate, mutants, texts):
+    """Tries mutants of one reading: gives each name, whether it is refused, and why."""
+    for mutant, goals, why in tried(crate, mutants, texts):
         end = f"refused: {mutant.function}: {', '.join(goals)}" if goals else f"FAILED: {why}"
         yield mutant.path.stem, bool(goals), end
 
 
-def alone(crate, mutants):
-    """Tries the others, and gives the same for each."""
-    for mutant in mutants:
-        texts = applied(crate, mutant, {})
-        said = check_with(crate, texts, [mutant.function], mutant.path.stem) if texts else UNFIT
-        errors = REFUSED.findall(said)
-        # a mutant that can't be read shows nothing, nor does a proof that only lost a name
-        unread = [
-            why
-            for file, why in errors
-            if UNREAD.search(why) and (file in texts or file.startswith(("src/", "specs/")))
-        ]
-        found = [why for _, why in errors if not LOST.search(why)] + OPEN.findall(said)
-        # without a file of answers the function itself has no proof, if its lemma is refused
-        is_left = re.search(rf"fn {crate}::{mutant.function}: (not proved|no proof)\b", said)
-        is_refused = bool(is_left and found and not unread)
-        end = "refused" if is_refused else "FAILED"
-        why = [*unread, *found, said[-240:]][0]
-        yield mutant.path.stem, is_refused, f"{end}: {mutant.function}: {why}"
+def alone(crate, mutant):
+    """Tries one of the others, and gives the same for it."""
+    texts = applied(crate, mutant, {})
+    said = check_with(crate, texts, [mutant.function], mutant.path.stem) if texts else UNFIT
+    errors = REFUSED.findall(said)
+    # a mutant that can't be read shows nothing, nor does a proof that only lost a name
+    unread = [
+        why
+        for file, why in errors
+        if UNREAD.search(why) and (file in texts or file.startswith(("src/", "specs/")))
+    ]
+    found = [why for _, why in errors if not LOST.search(why)] + OPEN.findall(said)
+    # without a file of answers the function itself has no proof, if its lemma is refused
+    is_left = re.search(rf"fn {crate}::{mutant.function}: (not proved|no proof)\b", said)
+    is_refused = bool(is_left and found and not unread)
+    end = "refused" if is_refused else "FAILED"
+    why = [*unread, *found, said[-240:]][0]
+    yield mutant.path.stem, is_refused, f"{end}: {mutant.function}: {why}"
 
 
 def told(crate, found):
@@ -264,26 +285,26 @@ def not_proved(crate):
 
 
 def tasks(crate, is_built):
-    """The tasks of a crate."""
+    """What tries the crate's mutants: each gives how many were refused, and how many failed."""
     if not is_built and not is_proved(crate):
         return [lambda: not_proved(crate)]
     mutants = [read_mutant(path) for path in paths_of(crate)]
-    bodies = [mutant for mutant in mutants if mutant.is_body]
-    others = [mutant for mutant in mutants if not mutant.is_body]
-    found = [together(crate, bodies)] * bool(bodies) + [alone(crate, others)] * bool(others)
+    bodies = readings(crate, [mutant for mutant in mutants if mutant.is_body])
+    found = [together(crate, *reading) for reading in bodies]
+    found += [alone(crate, mutant) for mutant in mutants if not mutant.is_body]
     return [lambda found=it: told(crate, found) for it in found]
 
 
-def has_mutants(crate):
-    return bool(paths_of(crate))
+def with_mutants():
+    """The crates that have mutants, lowest first."""
+    return sorted(filter(paths_of, STANDS_ON), key=lambda it: len(below(it)))
 
 
-def wait_for_proofs():
-    """Returns when no other process proves the crates."""
-    lock = ROOT / "out/proofs.lock"
-    lock.parent.mkdir(exist_ok=True)
-    with lock.open("a") as file:
-        fcntl.flock(file, fcntl.LOCK_SH)
+def counted(results):
+    """Prints the last line, of what all tasks gave, and gives the status."""
+    refused, failed = map(sum, zip((0, 0), *results))
+    print(f"{refused} refused, {failed} failed")
+    return 1 if failed or not refused else 0
 
 
 def arguments(crates):
@@ -298,18 +319,13 @@ def arguments(crates):
 
 
 def main():
-    lowest_first = sorted(filter(has_mutants, STANDS_ON), key=lambda it: len(below(it)))
+    lowest_first = with_mutants()
     given = arguments(lowest_first)
-    processors = len(os.sched_getaffinity(0))
-    with concurrent.futures.ThreadPoolExecutor(processors) as beside:
-        for _ in range((processors + 1) // 2):
-            beside.submit(wait_for_proofs)
-        counts = []
+    with concurrent.futures.ThreadPoolExecutor(len(os.sched_getaffinity(0))) as beside:
+        tried = []
         for crate in given.crates or lowest_first:
-            counts += [beside.submit(task) for task in tasks(crate, given.built)]
-    refused, failed = map(sum, zip(*(it.result() for it in counts)))
-    print(f"{refused} refused, {failed} failed")
-    return 1 if failed or not refused else 0
+            tried += [beside.submit(task) for task in tasks(crate, given.built)]
+    return counted(it.result() for it in tried)
 
 
 if __name__ == "__main__":
