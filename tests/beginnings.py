@@ -17,9 +17,8 @@ import sys
 from random import Random
 
 from building import HERE
-from examples import SEARCH_LOOP
+from examples import SEARCH_LOOP, taken_apart
 from find import FITTING, LARGEST
-from images import taken_apart
 from running import Ran, run, text_of
 
 sys.path.insert(0, str(HERE / "model"))
@@ -105,7 +104,7 @@ def loop_at(offset, begins, code=0x31):
     return word_of(code, at, CHAIN_COMMAND, 5) + word_of(0x08, at, 0, 0)
 
 
-def image_with(size, loops):
+def image_of_preamble(size, loops):
     """An image of zeros but for loops, given by offset and the address that each fits."""
     image = bytearray(size)
     for offset, begins in loops:
@@ -116,23 +115,23 @@ def image_with(size, loops):
 ODD = 0x1235
 # images by name, with what --at is, and the address that the note names
 CASES = [
-    ("two loops", image_with(0x100, [(0, 0x2000), (0x40, 0x2000)]), 0, 0x2000),
-    ("one loop", image_with(0x100, [(0, 0x2000)]), 0, None),
+    ("two loops", image_of_preamble(0x100, [(0, 0x2000), (0x40, 0x2000)]), 0, 0x2000),
+    ("one loop", image_of_preamble(0x100, [(0, 0x2000)]), 0, None),
     ("no loop", bytes(0x100), 0, None),
     ("no byte", b"", 0, None),
-    ("two loops at odd places", image_with(0x100, [(3, ODD), (0x43, ODD)]), 0, ODD),
-    ("a tie", image_with(0x100, [(0, 0x800), (16, 0x900), (32, 0x800), (48, 0x900)]), 0, None),
-    ("as many as --at", image_with(0x100, [(0, 0), (16, 0), (32, 0x800), (48, 0x800)]), 0, None),
-    ("one more than --at", image_with(0x100, [(0, 0x800), (16, 0x800), (32, 0)]), 0, 0x800),
+    ("two loops at odd places", image_of_preamble(0x100, [(3, ODD), (0x43, ODD)]), 0, ODD),
+    ("a tie", image_of_preamble(0x100, [(0, 0x800), (16, 0x900), (32, 0x800), (48, 0x900)]), 0, None),
+    ("as many as --at", image_of_preamble(0x100, [(0, 0), (16, 0), (32, 0x800), (48, 0x800)]), 0, None),
+    ("one more than --at", image_of_preamble(0x100, [(0, 0x800), (16, 0x800), (32, 0)]), 0, 0x800),
     (
         "a wrong majority",
-        image_with(0x100, [(0, 0x2000), (16, 0x2000), (32, 0x3000), (48, 0x3000), (64, 0x3000)]),
+        image_of_preamble(0x100, [(0, 0x2000), (16, 0x2000), (32, 0x3000), (48, 0x3000), (64, 0x3000)]),
         0x2000,
         0x3000,
     ),
-    ("the majority at --at", image_with(0x100, [(0, 0x2000), (16, 0x2000)]), 0x2000, None),
-    ("past the largest storage", image_with(0x100, [(0, 0xFFFF08), (16, 0xFFFF08)]), 0, None),
-    ("up to its end", image_with(0x100, [(0, 0xFFFF00), (16, 0xFFFF00)]), 0, 0xFFFF00),
+    ("the majority at --at", image_of_preamble(0x100, [(0, 0x2000), (16, 0x2000)]), 0x2000, None),
+    ("past the largest storage", image_of_preamble(0x100, [(0, 0xFFFF08), (16, 0xFFFF08)]), 0, None),
+    ("up to its end", image_of_preamble(0x100, [(0, 0xFFFF00), (16, 0xFFFF00)]), 0, 0xFFFF00),
 ]
 # changes of the second of three loops, each of which makes it none: bytes of it by their offsets
 NONE_BY = {
@@ -162,14 +161,14 @@ def check_cases(checks, program):
         checks.expect(f"the model's note on {name}", wanted, seen)
         checks.expect(name, (0, note), found(program, image, "--at", f"{at:X}"))
     for name, changes in NONE_BY.items():
-        image = bytearray(image_with(0x100, [(0, 0x800), (0x40, 0x800)]))
+        image = bytearray(image_of_preamble(0x100, [(0, 0x800), (0x40, 0x800)]))
         for at, byte in changes.items():
             image[0x40 + at] = byte
         checks.expect(f"a loop with {name}", (0, ""), found(program, bytes(image)))
     for code in (0xB1, 0x39, 0xE9):
         image = loop_at(0, 0x800, code) + loop_at(16, 0x800, 0x71)
         checks.expect(f"a loop by {code:02X}", (0, note_of(image)), found(program, image))
-    image = bytearray(image_with(0x100, [(0, 0x800), (0x40, 0x800)]))
+    image = bytearray(image_of_preamble(0x100, [(0, 0x800), (0x40, 0x800)]))
     image[8], image[0x48], image[0x44] = 0xF8, 0x18, 0x78
     wanted = "note: 2 search loops fit if the image begins at 000800: say --at 800\n"
     checks.expect("other codes of a transfer", (0, wanted), found(program, bytes(image)))

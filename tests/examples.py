@@ -55,3 +55,21 @@ def picture_of(deck, name):
     """What `chanv graph` draws of a deck, with this name in its title, or without one for `""`."""
     title = f'  graph [label="{name}: ' if name else '  graph [label="'
     return text_of(deck.with_suffix(".dot")).replace('  graph [label="', title, 1)
+
+
+def taken_apart(text):
+    """The options of a deck's job, and its storage."""
+    words, storage = [], bytearray()
+    for line in text.splitlines():
+        match line.split():
+            case ["device" | "mask" | "start" | "limit" as name, value]:
+                words += [f"--{name}", value]
+            case ["extent", first, last]:
+                words += ["--extent", f"{first}-{last}"]
+            case ["fetch" | "store" as name, start, length]:
+                words += [f"--{name}", f"{start}+{length}"]
+            case ["storage", size]:
+                storage = bytearray(int(size, 16))
+            case ["put", address, digits]:
+                storage[int(address, 16) : int(address, 16) + 8] = bytes.fromhex(digits)
+    return words, bytes(storage)

@@ -12,8 +12,7 @@ import re
 import sys
 
 from building import HERE, short
-from examples import EXAMPLES, FOLDERS, TEXTS, decks_of
-from images import taken_apart
+from examples import EXAMPLES, FOLDERS, TEXTS, decks_of, taken_apart
 from running import Ran, run, text_of
 
 sys.path.insert(0, str(HERE / "model"))

@@ -21,7 +21,7 @@ from pathlib import Path
 from building import HERE, ROOT, compile_c, short, version
 from examples import EXAMPLES, FOLDERS, SEARCH_LOOP, TEXTS, decks_of, listed_with, verdicts_of
 from package import FOLDER, package, shared_library
-from refused_decks import DECK, REFUSED, REFUSED_OF_TWO
+from refused_decks import DECKS, replaced
 from running import Ran, run, text_of
 
 sys.path.insert(0, str(HERE / "model"))
@@ -115,15 +115,14 @@ def check_status(checks, library):
 
 def check_refused(checks, library):
     """No answer to what isn't a deck, nor to a file that isn't there."""
-    second = DECK.replace("deck 1", "deck 2").replace("extent", "limit 04096\nextent")
-    rows = [(DECK, *row) for row in REFUSED] + [(second, *row) for row in REFUSED_OF_TWO]
+    texts = [b"", *(text for name in DECKS for text, _ in replaced(name))]
     with tempfile.TemporaryDirectory() as room:
         files = [Path(room) / "missing.deck"]
-        for number, (deck, _name, old, new, *_) in enumerate(rows):
+        for number, text in enumerate(texts):
             files.append(Path(room) / f"{number}.deck")
-            files[-1].write_text(deck.replace(old, new), newline="")
+            files[-1].write_bytes(text)
         files.append(Path(room) / "carriage-returns.deck")
-        files[-1].write_text(DECK, newline="\r\n")
+        files[-1].write_text(DECKS["version 1"], newline="\r\n")
         for file in files:
             ran = judge(library, file)
             begun = ran.error.startswith(f"{file}: no answer: ")

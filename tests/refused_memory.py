@@ -9,11 +9,11 @@ answer. Unit tests make the calls that chanv doesn't make.
 import signal
 import tempfile
 
+from answers import FOUND, WIDE
 from beginnings import core, note_of
 from building import ROOT
 from cures import UNSEEN, said_beside
 from examples import CHANGES_BOTH, CHANGES_ITSELF, EXAMPLES, SEARCH_LOOP
-from faults import WIDE
 from find import NONE_FOUND
 from needs import least_lines
 from refusing import Case, Growths
@@ -36,8 +36,6 @@ SEEMS = f"note: the whole range is lent, but for storing\n{UNSEEN}\n"
 REFUSED = "chanv: deck line 1: header\n"
 HINT = "found chanv deck 3\n                 ^\nexpected chanv deck 1, chanv deck 2\n"
 
-
-FOUND = "000800 no 000818 changes-argument 4 CCWs: seek, search-id-equal, read-data\n"
 # the answers of `why` and of `why --of` differ in the path and in the lines `also`
 OF_LATER = """\
 no 000928 changes-ccw

@@ -20,14 +20,14 @@ from concurrent.futures import ThreadPoolExecutor
 from pathlib import Path
 from random import Random
 
+from answers import make_inputs
 from building import ROOT, version
 from cargo import CHECKED, cargo, missing, program, workspace
-from command_lines import FAULTS, rows
-from damaged_decks import damaged
-from examples import EXAMPLES, FOLDERS, SEARCH_LOOP, TEXTS, decks_of
+from command_lines import runs
+from examples import EXAMPLES, FOLDERS, TEXTS, decks_of
 from expecting import Checks
 from model import SEED, deck_of, jobs_of
-from refused_decks import DECK, HINTS, LINES, NO_DECKS, OLDER, OLDER_HINTS, REFUSED, REFUSED_OF_TWO
+from refused_decks import refused
 from refused_memory import advice_cases, command_cases
 from refusing import Growths
 from running import Ran, run, text_of
@@ -62,18 +62,6 @@ def as_chanv(program, room):
     return link
 
 
-def texts():
-    """Decks that the other tests make, most of which are refused."""
-    yield from (deck for _, deck, *_ in damaged(SEARCH_LOOP.read_bytes()))
-    for base, table in ((DECK, REFUSED), (text_of(TEXTS / "deck-two.deck"), REFUSED_OF_TWO)):
-        yield from (base.replace(old, new, 1).encode() for _, old, new, *_ in table)
-    yield from (text.encode() for text, *_ in NO_DECKS)
-    for base, table in ((LINES, HINTS), (OLDER, OLDER_HINTS)):
-        for count, more, *_ in table:
-            front = base.splitlines(keepends=True)[:count]
-            yield "".join([*front, more]).encode()
-
-
 def inputs_in(folder, count):
     """The decks, and each image with a start; random jobs and texts are written into the folder."""
     decks = [deck for each in (*FOLDERS, TEXTS) for deck in decks_of(each)]
@@ -81,7 +69,7 @@ def inputs_in(folder, count):
     for name in LARGE:
         decks.append(folder / f"{name}.deck")
         decks[-1].write_text("".join(decks_of_bench()[name]()))
-    for number, text in enumerate(texts()):
+    for number, (text, *_) in enumerate(refused()):
         decks.append(folder / f"text-{number}.deck")
         decks[-1].write_bytes(text)
     for number, job in enumerate(jobs_of(Random(SEED), count)):
@@ -145,17 +133,19 @@ def check_words(checks, programs):
     check_lines(checks, programs, lines)
 
 
-def check_command_lines(checks, programs):
+def check_command_lines(checks, programs, folder):
     """The words of a usage fault are clap's, except where a file is named in place of a command."""
-    of_clap = {line for line, text, _ in FAULTS if "isn't a command" not in text}
-    for line, _ in rows():
-        how = {"given": SEARCH_LOOP, "cwd": EXAMPLES}
-        both = [run(it, *shlex.split(line), **how) for it in programs]
+    make_inputs(folder)
+    for words, given, parts in runs():
+        file = folder / given
+        how = {"given": file if file.is_file() else b"", "cwd": folder}
+        both = [run(it, *words, **how) for it in programs]
         if both[0].output == f"chanv {version()}\n":
             both[0] = Ran(0, f"chanv {version()} (not proved)\n")
-        if line in of_clap:
+        said = parts[0].error
+        if said.startswith("error: ") and "isn't a command" not in said:
             both = [ran._replace(error=ran.error.partition(" ")[0]) for ran in both]
-        checks.expect(f"chanv {line}", *both)
+        checks.expect(f"{words} < {given}", *both)
 
 
 def check_unit_tests(checks):
@@ -195,5 +185,6 @@ def check(checks, built):
         programs = [as_chanv(it, folder) for it in (built.chanv(), plain)]
         check_inputs(checks, programs, folder, count or FEW)
         check_words(checks, programs)
-        check_command_lines(checks, programs)
+        (folder / "inputs").mkdir()
+        check_command_lines(checks, programs, folder / "inputs")
     check_growths(checks, plain, count)

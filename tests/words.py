@@ -13,8 +13,7 @@ form that the row of its reason in docs/OUTPUT.md shows; each reason has an exam
 import re
 
 from building import HERE, ROOT, short
-from examples import FOLDERS, TEXTS, verdicts_of
-from images import taken_apart
+from examples import FOLDERS, TEXTS, taken_apart, verdicts_of
 from running import Ran, run, text_of
 
 EXPLAINED = HERE / "explain.txt"
