@@ -170,7 +170,7 @@ shared : (j k : Job) (n m : Listed) → HasStoreAndKeep j n → HasStoreAndKeep 
     → ((b : ℕ) → IsNeededForStoring j b → IsKept k b → ⊥) → (b : ℕ) → IsShared n.store m.keep b → ⊥
 shared j k n m f g never b s = never b ((f.store.bytes b).0 s.0) ((g.keep.bytes b).0 s.1)
 
--- where lists are true, two that share nothing may run beside one another
+-- where lists are true, two programs that share nothing are compatible
 pub are_compatible : (j k : Job) (n m : Listed) → HasStoreAndKeep j n → HasStoreAndKeep k m
     → ((b : ℕ) → IsShared n.store m.keep b → ⊥) → ((b : ℕ) → IsShared m.store n.keep b → ⊥) → AreProgramsCompatible j k
 are_compatible j k n m f g one other = record { one_spares = spares j k n m f g one; other_spares = spares k j m n g f other }

@@ -97,8 +97,8 @@ pub(crate) fn remembered_is_fit()
     ensures { RememberedIsFit }
 {}
 
-/// A job grants the lists of needs exactly if it grants the needs; and two programs are
-/// compatible by their lists exactly if they are.
+/// If the needs of a program are listed, a job grants what is listed exactly if it grants the
+/// needs, and two programs are compatible by their lists exactly if they are.
 #[tactic(auto, using(crate::proofs::Needed::listed_is_exact))]
 pub(crate) fn listed_is_exact()
     ensures { ListedIsExact }

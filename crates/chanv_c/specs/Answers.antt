@@ -83,9 +83,9 @@ refusal_extent TooManyPlaces = 0
 refusal_extent Memory = 0
 refusal_extent (Wrong f) = fault_extent f
 
--- what a refusal says of the job, by what it says that too many places are reachable. Memory is
--- taken only after a look for the faults before a backward extent, so an allocation is refused only
--- without these
+-- what a refusal says of the job, by what it says that too many places are reachable. The
+-- faults with lower numbers than a backward extent are looked for before memory is taken, so an
+-- allocation is refused only without them
 abbrev pub IsRefusal : Type 0 → CJob → Refusal → Type 0
 IsRefusal crowded c TooManyPlaces = crowded × HasNoFault c
 IsRefusal crowded c Memory = HasNoneBelow c codes.EXTENT_BACKWARDS

@@ -30,7 +30,7 @@ pub(crate) struct VerdictText {
 /// Writes the text that explains the verdict on the job, as `chanv why` prints it: `YES` if the
 /// program may run, `NO` if it may not, `NO_ROOM` if the text is longer than `buffer`; then `len`
 /// is its length. Otherwise it says why there is no answer, like `chanv_verify`, and `len` is 0.
-/// `buffer` is written only for 0 and 1.
+/// `buffer` is written only for `YES` and `NO`.
 #[unsafe(no_mangle)]
 pub extern "C" fn chanv_text(
     alloc: Global,
