@@ -1,6 +1,6 @@
 # `make try DECK=..` judges a deck with nothing proved. `make` proves and builds chanv and runs it,
 # `make test` runs every proof and every test, and `make audit` shows that the proofs mean
-# something: it proves everything from nothing, and tries mutants, which the prover has to refuse.
+# something: it proves everything again, and tries mutants, which the prover has to refuse.
 # `make lib` builds the library for C. `make install PREFIX=/usr/local` copies what these two built
 # to where users expect it, the libraries to LIBDIR, and builds nothing; `make uninstall` removes it.
 # `make table` prints the contracts. `make rustc` needs no kit: from the same sources plain rustc
@@ -75,7 +75,7 @@ audit: can_test
 mutants: run lib
 	tests/mutants.py --built
 
-# The kit's gate, from nothing: the first half of an audit.
+# The kit's gate: the first half of an audit.
 proofs: can_test
 	tests/audit.py --proofs
 

@@ -1,5 +1,5 @@
 #!/usr/bin/env python3
-"""Proves every crate from nothing by `rt ci`, and tries the mutants of each once it is proved.
+"""Proves every crate by `rt ci`, the kit's gate, and tries the mutants of each once it is proved.
 
     tests/audit.py             proves, and tries the mutants
     tests/audit.py --proofs    proves
