@@ -52,7 +52,7 @@ fn areas_of<'a>(
 }
 
 /// The pairs of cylinders that the texts of extents say.
-fn pairs_of<'a>(alloc: Global, texts: &[&'a str]) -> Result<Vec<(u16, u16)>, OptionError<'a>>
+fn cylinder_pairs<'a>(alloc: Global, texts: &[&'a str]) -> Result<Vec<(u16, u16)>, OptionError<'a>>
     ensures { HoldsReading (λ pairs. pairs.items)
         (read_repeated extent_in options.Extent [] texts.now)
         result }
@@ -70,7 +70,7 @@ fn extents_of<'a>(alloc: Global, texts: &[&'a str]) -> Result<Extents, OptionErr
     ensures { HoldsReading (λ extents. extents) (extents_in texts.now) result }
 {
     let texts = if texts.is_empty() { &[""] } else { texts };
-    let pairs = pairs_of(alloc, texts)?;
+    let pairs = cylinder_pairs(alloc, texts)?;
     // each pair is right, so that only an allocation can fail
     Extents::new(alloc, pairs.as_slice()).map_err(|_| OptionError::Memory)
 }

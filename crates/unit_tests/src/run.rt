@@ -1,6 +1,6 @@
 //! The tests of `chan_run`.
 
-mod answers;
+mod decks;
 mod devices;
 mod image;
 mod one_ccw;

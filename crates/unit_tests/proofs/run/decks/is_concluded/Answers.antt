@@ -1,5 +1,5 @@
 use Rattle.std.proofs.Common.{sym, ◌∙◌}
-use Rattle.unit_tests.proofs.run.answers.is_concluded.Goals as goal
+use Rattle.unit_tests.proofs.run.decks.is_concluded.Goals as goal
 
 pub deliver-found-requires-clause-writer : goal.deliver-found-requires-clause-writer
 deliver-found-requires-clause-writer c =
