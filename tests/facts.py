@@ -7,7 +7,8 @@ answers of calls; where the machine itself stores; how many commands there are; 
 counts decks, mutants, unit tests and the jobs of `model` and `peer`.
 
 Two facts are in two places of the sources, because C has to be told, and because a constant text of
-the language can't be put together of others: the numbers of the header, and lines of the usage.
+the language can't be put together of others: the numbers of the header with the largest storage,
+and lines of the usage.
 """
 
 import re
@@ -101,13 +102,17 @@ def check_answers(checks):
 
 
 def check_numbers(checks):
-    """The library's answers and refusals have the numbers of the header, under the same names."""
+    """C has the library's numbers: the header its answers and refusals, c/chanv.c the storage."""
     enums = re.findall(r"(?s)enum chanv_(?:answer|refused) \{(.*?)\};", text_of(HEADER))
     header = dict(re.findall(r"(?m)^ +CHANV_([A-Z_]+) = (\d+)", "".join(enums)))
     source = text_of(ROOT / "crates/chanv_c/src/codes.rt")
     library = dict(re.findall(r"const ([A-Z_]+): u32 = (\d+);", source))
     checks.expect("how many enums have these numbers", 2, len(enums))
     checks.expect("the numbers of the library", header, library)
+    ccws = text_of(ROOT / "crates/ccw_core/src/ccw.rt")
+    limit = re.search(r"STORAGE_LIMIT: u32 = ([\d_]+);", ccws)
+    largest = re.search(r"LARGEST_STORAGE = (\d+)", text_of(ROOT / "c/chanv.c"))
+    checks.expect("the largest storage of C", limit[1].replace("_", ""), largest[1])
 
 
 def check_usage(checks):
