@@ -1,9 +1,6 @@
 -- Ranges that areas cover, by jumps from the end of one area to the end of another.
-use Rattle.std.proofs.Common.{◌≡◌, ℕ, zero, suc, ◌+◌, ◌<◌, ◌≤◌, true, false, ◌&&◌, nat_le, nat_lt}
-use Rattle.std.proofs.Common.{List, [], ◌∷◌, length, get_or, take, refl, sym, subst, ◌⊎◌, inl, inr}
-use Rattle.std.proofs.Common.{arith}
-use Rattle.std.proofs.lemmas.Bool.{both_ways, cases_lt, or_left, or_right, and_from, and_left}
-use Rattle.std.proofs.lemmas.Bool.{and_right, le-leb, lt-ltb, lt-leb, le-ltb, or_from, or_parts}
+use Rattle.std.proofs.Common.{◌≡◌, ℕ, zero, suc, ◌+◌, ◌<◌, ◌≤◌, true, false, ◌&&◌, nat_le, nat_lt, List, [], ◌∷◌, length, get_or, take, refl, sym, subst, ◌⊎◌, inl, inr, arith}
+use Rattle.std.proofs.lemmas.Bool.{both_ways, cases_lt, or_left, or_right, and_from, and_left, and_right, le-leb, lt-ltb, lt-leb, le-ltb, or_from, or_parts}
 use Rattle.ccw_core.specs.declared.areas.Area.{Area}
 use Rattle.ccw_core.specs.Areas.{lies_in, covered}
 

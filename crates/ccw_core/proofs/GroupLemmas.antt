@@ -1,10 +1,8 @@
 -- A transfer in channel is known by the low four bits of its code.
-use Rattle.std.proofs.Common.{◌≡◌, ◌==◌, ◌%◌, ℕ, Bool, true, false, if◌then◌else◌, refl, ◌⊎◌, inl}
-use Rattle.std.proofs.Common.{inr}
+use Rattle.std.proofs.Common.{◌≡◌, ◌==◌, ◌%◌, ℕ, Bool, true, false, if◌then◌else◌, refl, ◌⊎◌, inl, inr}
 use Rattle.std.proofs.lemmas.Bool.{eqb-true, cases_Bool}
 use Rattle.ccw_core.specs.Group.{group_of}
-use Rattle.ccw_core.specs.declared.group.Group.TheVariants.{Invalid, Sense, Transfer, ReadBackward}
-use Rattle.ccw_core.specs.declared.group.Group.TheVariants.{Write, Read, Control}
+use Rattle.ccw_core.specs.declared.group.Group.TheVariants.{Invalid, Sense, Transfer, ReadBackward, Write, Read, Control}
 
 pub group_of-transfer : (code : ℕ) → (code % 16 == 8) ≡ true → group_of code ≡ Transfer
 group_of-transfer code h = let e : code % 16 ≡ 8 = eqb-true _ _ h in rw e refl

@@ -1,8 +1,6 @@
 -- Where a channel command word stands in storage, and where none does.
-use Rattle.std.proofs.Common.{◌≡◌, ◌≤◌, ◌<◌, ◌+◌, ◌%◌, ◌&&◌, ℕ, Bool, true, false, if◌then◌else◌}
-use Rattle.std.proofs.Common.{refl, List, length, take, drop, Some, None, arith, eq-eqb}
-use Rattle.std.proofs.lemmas.Bool.{and_left, and_right, and_from, le-leb, lt-leb, cond-false}
-use Rattle.std.proofs.lemmas.Bool.{cond-true, false_from_ne_true, eqb-true}
+use Rattle.std.proofs.Common.{◌≡◌, ◌≤◌, ◌<◌, ◌+◌, ◌%◌, ◌&&◌, ℕ, Bool, true, false, if◌then◌else◌, refl, List, length, take, drop, Some, None, arith, eq-eqb}
+use Rattle.std.proofs.lemmas.Bool.{and_left, and_right, and_from, le-leb, lt-leb, cond-false, cond-true, false_from_ne_true, eqb-true}
 use Rattle.std.proofs.lemmas.List.{get_or-take, get_or-drop}
 use Rattle.ccw_core.specs.Ccw.{Fields, ccw}
 use Rattle.ccw_core.specs.Storage.{Stands, ccw_at, is_aligned, is_inside}

@@ -1,6 +1,5 @@
 -- The first bytes of a range that lie in no area of a merged list, and other leasts.
-use Rattle.std.proofs.Common.{◌≡◌, ℕ, ◌+◌, ◌-◌, ◌<◌, ◌≤◌, true, false, max, List, Option, Some}
-use Rattle.std.proofs.Common.{None, arith, rules, subst, sym}
+use Rattle.std.proofs.Common.{◌≡◌, ℕ, ◌+◌, ◌-◌, ◌<◌, ◌≤◌, true, false, max, List, Option, Some, None, arith, rules, subst, sym}
 use Rattle.std.proofs.lemmas.Bool.{cases_lt, both_ways, true_from_ne_false}
 use Rattle.ccw_core.specs.declared.areas.Area.{Area}
 use Rattle.ccw_core.specs.Areas.{IsGap, covered, end_of, lies_in}

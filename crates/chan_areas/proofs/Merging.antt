@@ -1,13 +1,10 @@
 -- Bytes of areas, how they stay the same while areas are merged, and that there is one merged list for them.
-use Rattle.std.proofs.Common.{◌≡◌, ℕ, suc, ◌+◌, ◌-◌, ◌++◌, ◌↔◌, inl, inr, ◌<◌, ◌≤◌, true, ◌||◌}
-use Rattle.std.proofs.Common.{◌&&◌, nat_le, nat_lt, List, [], ◌∷◌, length, get_or, take, refl, sym}
-use Rattle.std.proofs.Common.{ap, ◌∙◌, subst, ◌⊎◌, arith, append_assoc, IsPermutation, rules}
+use Rattle.std.proofs.Common.{◌≡◌, ℕ, suc, ◌+◌, ◌-◌, ◌++◌, ◌↔◌, inl, inr, ◌<◌, ◌≤◌, true, ◌||◌, ◌&&◌, nat_le, nat_lt, List, [], ◌∷◌, length, get_or, take, refl, sym, ap, ◌∙◌, subst, ◌⊎◌, arith, append_assoc, IsPermutation, rules}
 use Rattle.std.proofs.lemmas.Grind.{common_steps}
 use Rattle.std.specs.Cmp.Derive.{one_truth}
 use Rattle.std.specs.List.{All}
 use Rattle.std.specs.List.Sorted.{IsNonDecreasingBy}
-use Rattle.std.proofs.lemmas.Bool.{cases_lt, or_cases, or_left, or_right, and_from, le-leb, lt-ltb}
-use Rattle.std.proofs.lemmas.Bool.{both_ways}
+use Rattle.std.proofs.lemmas.Bool.{cases_lt, or_cases, or_left, or_right, and_from, le-leb, lt-ltb, both_ways}
 use Rattle.std.proofs.lemmas.List.{take_more, get_or_default}
 use Rattle.std.proofs.lemmas.List.Elements.{All-append, All-cons, All-head, All-nil, All-tail}
 use Rattle.std.proofs.lemmas.List.Folds.{list_any-append}
@@ -15,8 +12,7 @@ use Rattle.std.proofs.lemmas.List.Sorted.{list_any-IsPermutation}
 use Rattle.ccw_core.specs.declared.areas.Area.{Area}
 use Rattle.ccw_core.specs.Areas.{end_of, lies_in}
 use Rattle.ccw_core.proofs.Covering.{lies_in-nil}
-use Rattle.chan_areas.specs.Merged.{start_of, IsByteOf, EndsBelow, BeginAbove, IsMerged}
-use Rattle.chan_areas.specs.Merged.{AreExactly, AreRuns, HaveSameBytes, MergedIsUnique}
+use Rattle.chan_areas.specs.Merged.{start_of, IsByteOf, EndsBelow, BeginAbove, IsMerged, AreExactly, AreRuns, HaveSameBytes, MergedIsUnique}
 use Rattle.std.proofs.Math.Seq.{take-length}
 
 -- ---- bytes of areas

@@ -1,15 +1,12 @@
 -- Binary search in merged areas.
-use Rattle.std.proofs.Common.{◌≡◌, ℕ, zero, suc, ◌+◌, ◌<◌, ◌≤◌, true, false, leb, max, List, []}
-use Rattle.std.proofs.Common.{◌∷◌, length, get_or, Option, Some, None, sym, subst, ◌⊎◌, inl, inr}
-use Rattle.std.proofs.Common.{◌^◌, ◌↔◌, arith, Bor, MatchOption, option_copied, rules}
+use Rattle.std.proofs.Common.{◌≡◌, ℕ, zero, suc, ◌+◌, ◌<◌, ◌≤◌, true, false, leb, max, List, [], ◌∷◌, length, get_or, Option, Some, None, sym, subst, ◌⊎◌, inl, inr, ◌^◌, ◌↔◌, arith, Bor, MatchOption, option_copied, rules}
 use Rattle.std.specs.List.{All, HoldsAt}
 use Rattle.std.specs.List.Sorted.{IsNonDecreasingBy, IsPartitionPoint}
 use Rattle.std.proofs.lemmas.Bool.{cases_lt, leb-false, both_ways, false_from_ne_true}
 use Rattle.ccw_core.specs.declared.areas.Area.{Area}
 use Rattle.ccw_core.specs.Areas.{end_of, lies_in}
 use Rattle.ccw_core.proofs.Covering.{lies_in-at, lies_in-nil}
-use Rattle.chan_areas.specs.Merged.{IsByteOf, BeginAbove, EndsBelow, IsMerged}
-use Rattle.chan_areas.specs.Merged.{IsFirstAbove, IsNextArea, Meets}
+use Rattle.chan_areas.specs.Merged.{IsByteOf, BeginAbove, EndsBelow, IsMerged, IsFirstAbove, IsNextArea, Meets}
 use Rattle.chan_areas.proofs.Merging.{lies_in-cases}
 
 -- ---- merged areas by their places in the list
@@ -98,12 +95,7 @@ meets_next xs start len a p n = (to, from)
     to l =
         let e = n.ends in
         let f = n.filled in
-        record {
-          at = max start a.start;
-          from = omega arith;
-          below = omega arith;
-          lies = n.inside (max start a.start) (omega arith) (omega arith);
-        }
+        record { at = max start a.start; from = omega arith; below = omega arith; lies = n.inside (max start a.start) (omega arith) (omega arith) }
 
     late : (k : Meets xs start len) → start + len ≤ a.start → ⊥
     late k l = let lt = k.below in both_ways (lies_in xs k.at) (n.before k.at k.from (omega arith)) k.lies

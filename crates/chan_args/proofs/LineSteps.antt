@@ -1,10 +1,8 @@
 -- The table of commands, word by word and line by line.
-use Rattle.std.proofs.Common.{◌≡◌, ◌∙◌, ℕ, zero, suc, ◌<◌, List, [], ◌∷◌, length, take, arith, ap}
-use Rattle.std.proofs.Common.{refl, subst, Result, Ok, Err}
+use Rattle.std.proofs.Common.{◌≡◌, ◌∙◌, ℕ, zero, suc, ◌<◌, List, [], ◌∷◌, length, take, arith, ap, refl, subst, Result, Ok, Err}
 use Rattle.std.specs.Prelude.{IfOk, IsOkAnd}
 use Rattle.chan_args.specs.Lines.{LineEntry, WordEntry, line_in, rule_in, with_lines, with_words}
-use Rattle.chan_args.proofs.Names.{App, Command, IsCommand, app_of}
-use Rattle.chan_args.proofs.Names.{slice_index_or, with_rule, with_subcommand}
+use Rattle.chan_args.proofs.Names.{App, Command, IsCommand, app_of, slice_index_or, with_rule, with_subcommand}
 
 word_more : (app : App) (words : List WordEntry) (i n : ℕ) (d : WordEntry) → i < length words → n ≡ suc i
     → with_rule (with_words rule_in app (take i words)) (rule_in (slice_index_or words i d))

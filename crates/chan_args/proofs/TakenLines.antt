@@ -1,25 +1,11 @@
 -- What words in which nothing is wrong name: no command, or that of an action, or `show`, `deck`,
 -- `explain` or `find`.
-use Rattle.std.proofs.Common.{◌++◌, ◌||◌, ◌∙◌, ◌∷◌, ◌≡◌, Bool, List, None, Option, Some, [], ap}
-use Rattle.std.proofs.Common.{codes, cond, false, inl, inr, length, refl, subst, suc, sym}
-use Rattle.std.proofs.Common.{true, zero, ℕ}
-use Rattle.clap.specs.Faults.{bundle_fault, bundle_step_fault, check_fault, defaults_fault}
-use Rattle.clap.specs.Faults.{entered_fault, flag_word_fault, flags_fault, level_fault, long_fault}
-use Rattle.clap.specs.Faults.{other_fault, settle_fault, short_fault, step_fault, turn_fault}
-use Rattle.clap.specs.Faults.{walk_fault}
-use Rattle.clap.specs.Walk.{Held, Names, Outcome, Step, Text, Walk, after_flag, after_step}
-use Rattle.clap.specs.Walk.{answers_to, arg_by_index, arg_by_long, arg_by_short, bundle_met}
-use Rattle.clap.specs.Walk.{bundle_step, finished, has_long, has_short, idle}
-use Rattle.clap.specs.Walk.{long_or_other, nothing_held, plain, settled, short_or_plain}
-use Rattle.clap.specs.Walk.{subcommand_met, subcommand_or_other, to_positional, trailing, value}
-use Rattle.clap.specs.Walk.{walk, walk_from, walked}
+use Rattle.std.proofs.Common.{◌++◌, ◌||◌, ◌∙◌, ◌∷◌, ◌≡◌, Bool, List, None, Option, Some, [], ap, codes, cond, false, inl, inr, length, refl, subst, suc, sym, true, zero, ℕ}
+use Rattle.clap.specs.Faults.{bundle_fault, bundle_step_fault, check_fault, defaults_fault, entered_fault, flag_word_fault, flags_fault, level_fault, long_fault, other_fault, settle_fault, short_fault, step_fault, turn_fault, walk_fault}
+use Rattle.clap.specs.Walk.{Held, Names, Outcome, Step, Text, Walk, after_flag, after_step, answers_to, arg_by_index, arg_by_long, arg_by_short, bundle_met, bundle_step, finished, has_long, has_short, idle, long_or_other, nothing_held, plain, settled, short_or_plain, subcommand_met, subcommand_or_other, to_positional, trailing, value, walk, walk_from, walked}
 use Rattle.chan_args.specs.CommandLine.{IsKnownCommand, IsAccepted}
 use Rattle.chan_args.specs.Lines.{chanv}
-use Rattle.chan_args.proofs.Names.{if◌then◌else◌, App, ErrorKind, Kinds, Rule, Shape, append-nil}
-use Rattle.chan_args.proofs.Names.{append_assoc, argument_words, built, bytes_eq, bytes_eq-Decides}
-use Rattle.chan_args.proofs.Names.{chars, entered, find, fold, help_shape, label_of, long_of}
-use Rattle.chan_args.proofs.Names.{names_of, option_map, option_map_or, or_else, rows_at, short_of}
-use Rattle.chan_args.proofs.Names.{slice_get, slice_index_or, subcommand_of, topic_rule}
+use Rattle.chan_args.proofs.Names.{if◌then◌else◌, App, ErrorKind, Kinds, Rule, Shape, append-nil, append_assoc, argument_words, built, bytes_eq, bytes_eq-Decides, chars, entered, find, fold, help_shape, label_of, long_of, names_of, option_map, option_map_or, or_else, rows_at, short_of, slice_get, slice_index_or, subcommand_of, topic_rule}
 use Rattle.chan_args.specs.declared.action.Action.TheVariants as actions
 use Rattle.chan_args.specs.declared.action.Explained.TheVariants as tells
 

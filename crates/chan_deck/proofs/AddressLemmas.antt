@@ -1,14 +1,8 @@
 -- Addresses of six, seven and eight digits, and sizes, digit by digit and byte by byte.
-use Rattle.std.proofs.Common.{◌≡◌, ℕ, ◌/◌, ◌%◌, ◌^◌, ◌<◌, ◌≤◌, List, [], ◌∷◌, ◌++◌, ◌∙◌, get_or}
-use Rattle.std.proofs.Common.{slice_index, refl, sym, ap, arith, encode_utf8}
-use Rattle.std.specs.Int.{w32, to_be_bytes, bytes_high_first}
-use Rattle.std.proofs.lemmas.Bool.{le-ltb, lt-ltb}
+use Rattle.chan_deck.proofs.Names.{[], address_text, ap, arith, bytes_high_first, encode_upper, encode_with, get_or, le-ltb, List, lt-ltb, refl, size_digits, slice_index, STORAGE_LIMIT, sym, to_be_bytes, upper_digits, w32, ℕ, ◌%◌, ◌++◌, ◌/◌, ◌<◌, ◌^◌, ◌∙◌, ◌∷◌, ◌≡◌, ◌≤◌}
+use Rattle.std.proofs.Common.{encode_utf8}
 use Rattle.std.proofs.lemmas.Str.{encode_ascii}
-use Rattle.hex.specs.Hex.{encode_upper, encode_with, upper_digits}
-use Rattle.chan_deck.specs.Item.{size_digits}
-use Rattle.chan_deck.specs.VerdictLine.{address_text}
 use Rattle.chan_deck.proofs.UpperDigits.{digit_ascii}
-use Rattle.ccw_core.specs.declared.ccw.TheConstants.{STORAGE_LIMIT}
 
 -- the digits of a byte, as characters
 pub two_digits : (b high low : ℕ) → high ≡ b / 16 → low ≡ b % 16

@@ -1,13 +1,7 @@
 -- Numbers of three, four and eight bytes.
-use Rattle.std.proofs.Common.{◌≡◌, ℕ, ◌/◌, ◌%◌, ◌^◌, ◌<◌, List, [], ◌∷◌, length, drop, get_or, refl}
-use Rattle.std.proofs.Common.{sym, ap, ◌∙◌, arith}
-use Rattle.std.specs.List.{AllByRecursion}
-use Rattle.std.specs.Int.{w32, bytes_high_first, from_be_bytes}
+use Rattle.chan_deck.proofs.Names.{[], AllByRecursion, ap, arith, bytes_high_first, drop, encode_upper, from_be_bytes, get_or, IsByte, length, List, refl, size_digits, STORAGE_LIMIT, sym, w32, ℕ, ◌%◌, ◌/◌, ◌<◌, ◌^◌, ◌∙◌, ◌∷◌, ◌≡◌}
 use Rattle.std.proofs.lemmas.Nat.{be_bytes_4}
-use Rattle.hex.specs.Hex.{encode_upper}
-use Rattle.chan_deck.specs.Item.{IsByte, size_digits}
 use Rattle.chan_deck.proofs.UpperDigits.{leading_zero}
-use Rattle.ccw_core.specs.declared.ccw.TheConstants.{STORAGE_LIMIT}
 
 -- an address has the three bytes that it was made of
 pub address_bytes : (b : List ℕ) (n : ℕ) → length b ≡ 3 → ((i : ℕ) → get_or b i 0 < 256)

@@ -1,33 +1,13 @@
 -- The cause for which a line is refused is the first of the table that applies.
-use Rattle.std.proofs.Common.{◌≡◌, ℕ, ◌+◌, ◌/◌, ◌%◌, ◌<◌, ◌≤◌, Bool, true, false, cond, ltb, List}
-use Rattle.std.proofs.Common.{[], ◌∷◌, ◌++◌, length, map, Result, Err, Option, Some, None}
-use Rattle.std.proofs.Common.{MatchBool, refl, sym, ap, subst, ◌∙◌, append_assoc, arith, lit<}
-use Rattle.std.specs.Prelude.{◌≢◌, ◌==◌, ◌&&◌, nat_lt, nat_le}
+use Rattle.chan_deck.proofs.Names.{[], after_item, after_line, ap, append_assoc, Area, arith, Bool, Cause, cond, cond_both, device, end, Err, extent, extent_of, false, fetch, Filling, Found, header, Heading, Image, is_empty, is_limit, is_mask, is_second, is_size, is_whole, is_zero, IsDeckCause, Item, items, LAST_CYLINDER, last_of, le-leb, length, limit, limit_line, line, LineSays, LineSaysIfAny, List, Listing, lit<, ltb, ltb-false, ltb-true, map, mask, Masked, MatchBool, Named, nat_le, nat_lt, nat_tests, None, on_extent, on_put, OnDevice, One, Opening, Option, part, put, puts, rank, refl, Result, Some, stands, start, Started, State, step, storage, store, subst, sym, true, Two, Version, VersionNumber, Whole, whole_line, ℕ, ◌%◌, ◌++◌, ◌+◌, ◌/◌, ◌<◌, ◌==◌, ◌∙◌, ◌∷◌, ◌≡◌, ◌≤◌}
+use Rattle.std.specs.Prelude.{◌≢◌, ◌&&◌}
 use Rattle.std.specs.Result.{IfErr}
 use Rattle.std.proofs.lemmas.Result.{IfErr-at_err}
-use Rattle.std.proofs.lemmas.Bool.{ltb-true, ltb-false, le-leb, cond_both}
-use Rattle.chan_deck.specs.declared.version.VersionNumber.{VersionNumber}
-use Rattle.std.proofs.lemmas.Bool.Decides.{nat_tests}
-use Rattle.ccw_core.specs.declared.areas.Area.{Area}
-use Rattle.ckd_core.specs.Mask.{is_mask}
-use Rattle.chan_deck.specs.Item.{Item, header, device, mask, start, limit, extent, fetch, store}
-use Rattle.chan_deck.specs.Item.{storage, put, end, line, LineSaysIfAny, LineSays}
-use Rattle.chan_deck.specs.Image.{Image, items, puts, is_zero, extent_of, limit_line}
-use Rattle.chan_deck.specs.Refused.{last_of, is_end, is_second, has_ended, may_stand, may_follow}
-use Rattle.chan_deck.specs.Refused.{size_said, is_size, is_limit, is_above, is_place, Found}
-use Rattle.chan_deck.specs.Refused.{whole_line, part, Applies, AppliesBehindEnd, IsDeckCause, rank}
-use Rattle.chan_deck.specs.Reading.{State, Opening, Named, OnDevice, Masked, Started, Listing}
-use Rattle.chan_deck.specs.Reading.{Filling, Whole, step, stands, after_item, on_extent, on_put}
-use Rattle.chan_deck.specs.Reading.{is_empty, no_form, is_whole, after_line}
-use Rattle.chan_deck.specs.declared.heading.Heading.{Heading}
-use Rattle.chan_deck.proofs.StepLemmas.{heading, lists, said, IsState, Ends, at_front, at_store}
-use Rattle.chan_deck.proofs.StepLemmas.{at_storage, at_put, at_end, last_of-push}
+use Rattle.chan_deck.specs.Refused.{is_end, has_ended, may_stand, may_follow, size_said, is_above, is_place, Applies, AppliesBehindEnd}
+use Rattle.chan_deck.specs.Reading.{no_form}
+use Rattle.chan_deck.proofs.StepLemmas.{heading, lists, said, IsState, Ends, at_front, at_store, at_storage, at_put, at_end, last_of-push}
 use Rattle.chan_deck.proofs.ItemLemmas.{says_one}
-use Rattle.chan_deck.specs.declared.version.Version.{Version}
-use Rattle.chan_deck.specs.declared.version.Version.TheVariants.{One, Two}
-use Rattle.chan_deck.specs.declared.cause.Cause.{Cause}
 use Rattle.chan_deck.specs.declared.cause.Cause.TheVariants as causes
-use Rattle.ckd_core.specs.declared.device.TheConstants.{LAST_CYLINDER}
 
 -- ---- what may stand where a reading ends
 

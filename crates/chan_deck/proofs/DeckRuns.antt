@@ -1,35 +1,9 @@
 -- A deck's lines are read as that deck, and whatever has been read can go on to be a deck.
-use Rattle.std.proofs.Common.{◌≡◌, ℕ, zero, suc, ◌+◌, ◌-◌, ◌*◌, ◌/◌, ◌%◌, ◌≤◌, true, false}
-use Rattle.std.proofs.Common.{List, [], ◌∷◌, ◌++◌, length, take, drop, map, Result, Ok, Err, refl}
-use Rattle.std.proofs.Common.{sym, ap, subst, ◌∙◌, append_assoc, arith, replicate, length-append}
-use Rattle.std.proofs.Common.{length-drop, lit<}
-use Rattle.std.specs.Prelude.{◌==◌}
-use Rattle.std.specs.List.{AllByRecursion}
-use Rattle.std.proofs.lemmas.Bool.{le-leb, le-ltb, eqb-true, and_parts, cond_both}
-use Rattle.std.proofs.lemmas.List.{append-nil, take-append-drop, replicate-append-replicate}
-use Rattle.std.proofs.lemmas.List.{length-take}
-use Rattle.ccw_core.specs.declared.areas.Area.{Area}
-use Rattle.ckd_core.specs.declared.device.Device.TheVariants.{D2311}
-use Rattle.ckd_core.specs.Extents.{IsExtent, AreExtents}
-use Rattle.chan_deck.specs.Item.{Item, header, device, mask, start, limit, extent, fetch, store}
-use Rattle.chan_deck.specs.Item.{storage, put, end, HasForm}
-use Rattle.chan_deck.specs.Image.{Image, IsDeck, HasLimit, header_of, limit_line, items, puts}
-use Rattle.chan_deck.specs.Image.{is_zero, extent_of}
-use Rattle.chan_deck.specs.Reading.{State, Opening, Named, OnDevice, Masked, Started, Listing}
-use Rattle.chan_deck.specs.Reading.{Filling, Whole, step, and_then, run, pad, image_of}
-use Rattle.chan_deck.specs.declared.heading.Heading.{Heading}
-use Rattle.chan_deck.specs.Refused.{is_size}
+use Rattle.chan_deck.proofs.Names.{[], AllByRecursion, and_parts, and_then, ap, append-nil, append_assoc, Area, AreExtents, arith, Cause, cond_both, D2311, Device, device, drop, end, eqb-true, Err, extent, extent_of, false, fetch, Filling, HasForm, HasLimit, header, header_of, Heading, Image, image_of, is_mask, is_size, is_zero, IsDeck, IsExtent, Item, items, LAST_CYLINDER, le-leb, le-ltb, length, length-append, length-drop, length-take, limit, limit_line, List, Listing, lit<, map, mask, Masked, Named, Ok, OnDevice, One, Opening, pad, put, puts, refl, replicate, replicate-append-replicate, Result, run, start, Started, State, step, storage, STORAGE_LIMIT, store, subst, suc, sym, take, take-append-drop, true, Two, Version, Whole, zero, ℕ, ◌%◌, ◌*◌, ◌++◌, ◌+◌, ◌-◌, ◌/◌, ◌==◌, ◌∙◌, ◌∷◌, ◌≡◌, ◌≤◌}
 use Rattle.chan_deck.proofs.PutLemmas.{length_pad}
 use Rattle.chan_deck.proofs.LineRefusals.{good_size}
 use Rattle.chan_deck.proofs.StepLemmas.{said, IsState, step-says}
-use Rattle.ckd_core.specs.declared.device.Device.{Device}
-use Rattle.chan_deck.specs.declared.version.Version.{Version}
-use Rattle.chan_deck.specs.declared.version.Version.TheVariants.{One, Two}
 use Rattle.chan_deck.specs.declared.version.VersionNumber.TheVariants as numbers
-use Rattle.ckd_core.specs.Mask.{is_mask}
-use Rattle.chan_deck.specs.declared.cause.Cause.{Cause}
-use Rattle.ckd_core.specs.declared.device.TheConstants.{LAST_CYLINDER}
-use Rattle.ccw_core.specs.declared.ccw.TheConstants.{STORAGE_LIMIT}
 
 -- ---- runs
 

@@ -1,12 +1,8 @@
 -- The values of digits, and words that are read by them.
-use Rattle.std.proofs.Common.{◌≡◌, ℕ, zero, suc, ◌+◌, ◌*◌, ◌/◌, ◌%◌, ◌<◌, List, [], ◌∷◌, ◌++◌}
-use Rattle.std.proofs.Common.{length, take, set, slice_index, get_or, Some, None, refl, sym, ap}
-use Rattle.std.proofs.Common.{ap₂, ◌∙◌, arith}
-use Rattle.std.specs.List.{AllByRecursion}
+use Rattle.chan_deck.proofs.Names.{[], AllByRecursion, ap, arith, encode_upper, encode_with, get_or, IsByte, IsBytes, length, List, None, refl, slice_index, Some, suc, sym, take, upper_digits, zero, ℕ, ◌%◌, ◌*◌, ◌++◌, ◌+◌, ◌/◌, ◌<◌, ◌∙◌, ◌∷◌, ◌≡◌}
+use Rattle.std.proofs.Common.{set, ap₂}
 use Rattle.std.proofs.lemmas.List.{append_assoc, take_more, take_more_set}
-use Rattle.hex.specs.Hex.{IsBytes, encode_upper, encode_with, upper_digits}
 use Rattle.chan_deck.specs.Digits.{IsPair}
-use Rattle.chan_deck.specs.Item.{IsByte}
 use Rattle.chan_deck.proofs.UpperDigits.{bytes_at}
 
 abbrev digit : ℕ → ℕ

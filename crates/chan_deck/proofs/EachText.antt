@@ -1,12 +1,8 @@
 -- Each text spells a deck or is refused: line after line is taken, until one is refused or none is left.
-use Rattle.std.proofs.Common.{◌≡◌, ℕ, zero, suc, ◌+◌, List, [], ◌∷◌, length, Result, Ok, Err, refl}
-use Rattle.std.proofs.Common.{ap, arith, inl, inr}
-use Rattle.chan_deck.specs.Refused.{split, lines, IsDeckOrRefused}
-use Rattle.chan_deck.specs.Reading.{State, Opening, Whole, HasRead, after_line}
+use Rattle.chan_deck.proofs.Names.{[], after_line, ap, arith, Cause, Err, HasRead, inl, inr, length, lines, List, Ok, Opening, refl, Result, split, State, suc, Whole, zero, ℕ, ◌+◌, ◌∷◌, ◌≡◌}
+use Rattle.chan_deck.specs.Refused.{IsDeckOrRefused}
 use Rattle.chan_deck.proofs.ItemLemmas.{line_read}
-use Rattle.chan_deck.proofs.RefusalLemmas.{starts, takes, refuses_line, refuses_end, refuses_more}
-use Rattle.chan_deck.proofs.RefusalLemmas.{stands_first, spells_deck}
-use Rattle.chan_deck.specs.declared.cause.Cause.{Cause}
+use Rattle.chan_deck.proofs.RefusalLemmas.{starts, takes, refuses_line, refuses_end, refuses_more, stands_first, spells_deck}
 use Rattle.chan_deck.specs.declared.cause.Cause.TheVariants as causes
 
 by_result : {P : Type 0} (r : Result State Cause) → ((s : State) → r ≡ Ok s → P) → ((c : Cause) → r ≡ Err c → P) → P

@@ -1,6 +1,5 @@
 -- What holds of each element of a list holds of those of its parts.
-use Rattle.std.proofs.Common.{ℕ, zero, suc, List, [], ◌∷◌, take, drop, map}
-use Rattle.std.specs.List.{AllByRecursion}
+use Rattle.chan_deck.proofs.Names.{[], AllByRecursion, drop, List, map, suc, take, zero, ℕ, ◌∷◌}
 
 pub all_take : {X : Type 0} (P : X → Type 0) (k : ℕ) (xs : List X) → AllByRecursion P xs → AllByRecursion P (take k xs)
 all_take P zero xs h = tt

@@ -1,27 +1,14 @@
 -- The explanation, row by row and line by line.
-use Rattle.std.proofs.Common.{◌≡◌, ◌∷◌, [], ◌++◌, ◌∙◌, ◌+◌, ◌-◌, ◌<◌, ◌≤◌, ap, sym, List, ℕ, zero}
-use Rattle.std.proofs.Common.{suc, true, Option, Some, refl, nat_eq, append_assoc}
-use Rattle.std.proofs.Common.{append-nil, arith, codes, drop, drop-cons, get_or, length}
-use Rattle.std.proofs.Common.{length-drop, slice_get, subst}
-use Rattle.std.proofs.lemmas.Bool.Decides.{nat_tests}
-use Rattle.std.proofs.lemmas.List.{drop_all}
-use Rattle.std.specs.Fmt.{decimal}
-use Rattle.std.specs.Int.{w16, to_be_bytes}
-use Rattle.hex.specs.Hex.{encode_upper, encode_with}
-use Rattle.ckd_core.specs.Mask.{is_mask, least_permitted}
+use Rattle.chan_deck.proofs.Names.{[], address_text, also_lines, ap, append_assoc, arith, byte_digits, codes, command_name, decimal, drop, drop-cons, drop_all, encode_upper, encode_with, get_or, given_text, is_mask, Job, length, length-drop, List, nat_tests, Option, Place, ranges_text, refl, seek_text, Some, subst, suc, sym, to_be_bytes, true, zero, ℕ, ◌++◌, ◌+◌, ◌-◌, ◌<◌, ◌∙◌, ◌∷◌, ◌≡◌, ◌≤◌}
+use Rattle.std.proofs.Common.{nat_eq, append-nil, slice_get}
+use Rattle.std.specs.Int.{w16}
+use Rattle.ckd_core.specs.Mask.{least_permitted}
 use Rattle.chan_walk.specs.declared.evidence.Outside.TheVariants.{Bin, Head}
-use Rattle.chan_walk.specs.declared.job.Job.{Job}
 use Rattle.chan_walk.specs.declared.offence.Offence.{Offence}
 use Rattle.chan_walk.specs.declared.evidence.Evidence.{Evidence}
-use Rattle.chan_walk.specs.declared.place.Place.{Place}
 use Rattle.chan_walk.specs.declared.argument.GivenBytes.{GivenBytes}
 use Rattle.chan_walk.specs.Operand.{addresses_given}
-use Rattle.chan_deck.specs.Explanation.{AddsText, ArePathRows, IsPathRow, also_after, also_lines}
-use Rattle.chan_deck.specs.Explanation.{argument_text, given_text, next_lines, ranges_text}
-use Rattle.chan_deck.specs.Explanation.{seek_text, taken_text, weaker_text}
-use Rattle.chan_deck.specs.VerdictLine.{address_text}
-use Rattle.chan_deck.specs.Item.{byte_digits}
-use Rattle.chan_deck.specs.Listing.{command_name}
+use Rattle.chan_deck.specs.Explanation.{AddsText, ArePathRows, IsPathRow, also_after, argument_text, next_lines, taken_text, weaker_text}
 
 -- ---- the cause
 

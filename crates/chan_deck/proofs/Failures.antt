@@ -1,6 +1,5 @@
 -- What the result of a call says of its writer.
-use Rattle.std.proofs.Common.{◌≡◌, Bool, true, false, Ok}
-use Rattle.std.proofs.lemmas.Bool.{false_from_ne_true}
+use Rattle.chan_deck.proofs.Names.{Bool, false, false_from_ne_true, Ok, true, ◌≡◌}
 use Rattle.std.specs.Result.{IsErrOf}
 
 -- a failure would have been told by an error

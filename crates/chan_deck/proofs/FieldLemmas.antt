@@ -1,9 +1,7 @@
 -- The parts of a line: what follows a word, and two fields with a space between them.
-use Rattle.std.proofs.Common.{◌≡◌, ℕ, List, [], ◌∷◌, ◌++◌, length, length-append, Option, Some}
-use Rattle.std.proofs.Common.{None, MatchOption, refl, ap, ◌∙◌, arith}
-use Rattle.std.specs.Int.{bytes_high_first}
-use Rattle.hex.specs.Hex.{encode_upper}
-use Rattle.chan_deck.specs.Item.{IsWord, line, put, address_digits}
+use Rattle.chan_deck.proofs.Names.{[], address_digits, ap, arith, bytes_high_first, encode_upper, length, length-append, line, List, None, Option, put, refl, Some, ℕ, ◌++◌, ◌∙◌, ◌∷◌, ◌≡◌}
+use Rattle.std.proofs.Common.{MatchOption}
+use Rattle.chan_deck.specs.Item.{IsWord}
 use Rattle.chan_deck.proofs.UpperDigits.{length-encode_upper}
 
 pub on_none : {A : Type 0} (r : Option A) (P : Type 0) (Q : A → Type 0) → r ≡ None → P → MatchOption r P Q

@@ -1,19 +1,7 @@
 -- Filling storage: the bytes behind the last put are zeros until a put writes there.
-use Rattle.std.proofs.Common.{◌≡◌, ℕ, ◌+◌, ◌-◌, ◌^◌, ◌<◌, ◌≤◌, true, false, List, ◌++◌, length}
-use Rattle.std.proofs.Common.{take, drop, Ok, Err, refl, sym, ap, ◌∙◌, arith, replicate}
-use Rattle.std.proofs.Common.{length-append, length-drop, ◌&&◌}
-use Rattle.std.specs.Prelude.{◌==◌, nat_le, ◌%◌}
-use Rattle.std.specs.Int.{w64, to_be_bytes, from_be_bytes}
-use Rattle.std.proofs.lemmas.Bool.{false_from_ne_true, le-leb, leb-true, eqb-true, and_parts}
+use Rattle.chan_deck.proofs.Names.{and_parts, ap, Area, arith, drop, drop-drop, drop-replicate, drop_at, end, eqb-true, Err, false, false_from_ne_true, Filling, from_be_bytes, Heading, image_of, is_zero, le-leb, leb-true, length, length-append, length-drop, length-take, List, nat_le, Ok, pad, put, refl, replicate, step, sym, take, take-append-add, take-append-drop, take-replicate, take_at, to_be_bytes, true, w64, Whole, ℕ, ◌&&◌, ◌++◌, ◌+◌, ◌-◌, ◌<◌, ◌==◌, ◌^◌, ◌∙◌, ◌≡◌, ◌≤◌}
+use Rattle.std.specs.Prelude.{◌%◌}
 use Rattle.std.proofs.lemmas.Nat.{from_be_bytes-to_be_bytes_8}
-use Rattle.std.proofs.lemmas.List.{take-append-drop, length-take, take_at, drop_at, drop-replicate}
-use Rattle.std.proofs.lemmas.List.{take-replicate, drop-drop}
-use Rattle.std.proofs.Math.Seq.{take-append-add}
-use Rattle.ccw_core.specs.declared.areas.Area.{Area}
-use Rattle.chan_deck.specs.Item.{put, end}
-use Rattle.chan_deck.specs.Image.{is_zero}
-use Rattle.chan_deck.specs.Reading.{Filling, Whole, step, pad, image_of}
-use Rattle.chan_deck.specs.declared.heading.Heading.{Heading}
 use Rattle.chan_deck.proofs.DeckRuns.{put_step, zeros_is}
 use Rattle.chan_deck.specs.declared.cause.Cause.TheVariants as causes
 

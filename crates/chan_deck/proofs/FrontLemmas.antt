@@ -1,31 +1,10 @@
 -- The lines of a text, and where it is refused.
-use Rattle.std.proofs.Common.{◌≡◌, ℕ, zero, suc, ◌+◌, ◌*◌, ◌/◌, ◌^◌, ◌<◌, ◌≤◌, false, cond, List}
-use Rattle.std.proofs.Common.{[], ◌∷◌, ◌++◌, length, take, drop, map, Result, Ok, Err, refl, sym}
-use Rattle.std.proofs.Common.{ap, ◌∙◌, append_assoc, arith, length-append, length-drop}
-use Rattle.std.specs.Prelude.{◌==◌}
-use Rattle.std.specs.List.{AllByRecursion}
-use Rattle.std.proofs.lemmas.List.{append-nil, take-append-drop, take-append-le, length-take}
-use Rattle.std.proofs.lemmas.List.{length-map, map-append}
-use Rattle.std.proofs.lemmas.Grind.{flat_map-append}
-use Rattle.std.proofs.lemmas.Bool.{eqb-true, cond_both}
-use Rattle.std.proofs.Math.Seq.{take-append-add}
-use Rattle.chan_walk.proofs.Theory.Lists.{all_append}
+use Rattle.chan_deck.proofs.Names.{[], all_append, AllByRecursion, and_then, ap, append-nil, append_assoc, arith, Cause, cond, cond_both, device, drop, end, eqb-true, Err, extent_of, false, fetch, flat_map-append, HasForm, HasLimit, HasRead, header, header_of, Image, is_zero, IsArea, IsByte, IsDeck, IsExtent, IsRefusedAt, Item, items, length, length-append, length-drop, length-map, length-take, limit_line, line, lines, LineSays, List, map, map-append, mask, Ok, One, Opening, puts, refl, Result, run, spelling, Spells, split, start, State, step, storage, STORAGE_LIMIT, store, suc, sym, take, take-append-add, take-append-drop, take-append-le, text, Two, Version, Whole, zero, ℕ, ◌*◌, ◌++◌, ◌+◌, ◌/◌, ◌<◌, ◌==◌, ◌^◌, ◌∙◌, ◌∷◌, ◌≡◌, ◌≤◌}
 use Rattle.chan_deck.proofs.Elements.{all_take, all_drop, all_map}
-use Rattle.ckd_core.specs.Extents.{IsExtent}
-use Rattle.chan_deck.specs.Item.{Item, header, device, mask, start, fetch, store, storage, end}
-use Rattle.chan_deck.specs.Item.{line, text, HasForm, LineSays, IsByte, IsArea}
-use Rattle.chan_deck.specs.Image.{Image, IsDeck, HasLimit, header_of, limit_line, items, puts}
-use Rattle.chan_deck.specs.Image.{is_zero, extent_of, spelling, Spells}
-use Rattle.chan_deck.specs.Refused.{split, lines, first_lines, onto_first, BeginsSomeDeck}
-use Rattle.chan_deck.specs.Refused.{IsRefusedAt}
-use Rattle.chan_deck.specs.Reading.{State, Opening, Whole, HasRead, step, and_then, run}
+use Rattle.chan_deck.specs.Refused.{first_lines, onto_first, BeginsSomeDeck}
 use Rattle.chan_deck.proofs.ItemLemmas.{HasNoFeed, line_no_feed, one_item}
 use Rattle.chan_deck.proofs.StepLemmas.{said, IsState, at_front}
-use Rattle.chan_deck.specs.declared.version.Version.{Version}
-use Rattle.chan_deck.specs.declared.version.Version.TheVariants.{One, Two}
 use Rattle.chan_deck.proofs.DeckRuns.{run-append, run-says, reads_deck, completes}
-use Rattle.chan_deck.specs.declared.cause.Cause.{Cause}
-use Rattle.ccw_core.specs.declared.ccw.TheConstants.{STORAGE_LIMIT}
 
 abbrev Line : Type 0
 Line = List ℕ

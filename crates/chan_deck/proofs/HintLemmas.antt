@@ -1,14 +1,7 @@
 -- What the lines before a refused line say, line by line.
-use Rattle.std.proofs.Common.{◌≡◌, ℕ, ◌+◌, ◌<◌, Bool, true, if◌then◌else◌, List, [], ◌∷◌, ◌++◌}
-use Rattle.std.proofs.Common.{length, take, map, Option, Some, None, is_some, not, refl, sym}
-use Rattle.std.proofs.Common.{ap, subst, ◌∙◌, arith, append_assoc, length-append}
-use Rattle.std.specs.List.{AllByRecursion}
-use Rattle.std.proofs.lemmas.List.{append-nil, take-append-le, take_all}
+use Rattle.chan_deck.proofs.Names.{[], AllByRecursion, ap, append-nil, append_assoc, arith, Bool, HasForm, header, if◌then◌else◌, is_empty, is_second, Item, last_of, length, length-append, line, LineReads, lines, LineSays, LineSaysIfAny, List, map, None, Option, refl, said_by, Some, split, storage, subst, sym, take, take-append-le, take_all, true, ℕ, ◌++◌, ◌+◌, ◌<◌, ◌∙◌, ◌∷◌, ◌≡◌}
+use Rattle.std.proofs.Common.{is_some, not}
 use Rattle.chan_deck.specs.Hint.{AreBefore, IsBehind, storage_said}
-use Rattle.chan_deck.specs.Item.{Item, header, storage, line, HasForm, LineSaysIfAny, LineSays}
-use Rattle.chan_deck.specs.Item.{LineReads, said_by}
-use Rattle.chan_deck.specs.Reading.{is_empty}
-use Rattle.chan_deck.specs.Refused.{is_second, last_of, lines, split}
 use Rattle.chan_deck.specs.declared.hint.Before.{Before}
 use Rattle.chan_deck.specs.declared.item.Item as said
 use Rattle.chan_deck.specs.declared.version.VersionNumber.TheVariants as numbers
@@ -57,12 +50,7 @@ second_told is i b some before e =
 pub item_told : (is : List Item) (i : Item) (r : said.Item) (second : Bool) (size : Option ℕ) → said_by r ≡ Some i
     → second ≡ is_second (is ++ i ∷ []) → size ≡ storage_said (is ++ i ∷ [])
     → AreBefore (is ++ i ∷ []) (record { last = Some r; is_second = second; size = size })
-item_told is i r second size says e f = record {
-  last = says ∙ sym (last_more is i);
-  some = some_more is i;
-  second = e;
-  size = f;
-}
+item_told is i r second size says e f = record { last = says ∙ sym (last_more is i); some = some_more is i; second = e; size = f }
 
 -- the items of some lines and of one more are the items of these, and one more
 last_line : (ls : List (List ℕ)) (l : List ℕ) (is : List Item) → AllByRecursion HasForm is → map line is ≡ ls ++ l ∷ []
@@ -115,12 +103,7 @@ behind t n k b rest h e = record {
 
 -- none was taken
 pub none_taken : (t : List ℕ) (b : Before) → AreBefore [] b → AreTaken t 0 b t
-none_taken t b before = record {
-  done = [];
-  count = refl;
-  parts = refl;
-  says = λ is forms told. none is told;
-}
+none_taken t b before = record { done = []; count = refl; parts = refl; says = λ is forms told. none is told }
   where
     none : (is : List Item) → map line is ≡ [] → AreBefore is b
     none [] e = before

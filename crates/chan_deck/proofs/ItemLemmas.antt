@@ -1,29 +1,14 @@
 -- A line says one thing, and has no line feed in it.
-use Rattle.std.proofs.Common.{◌≡◌, ℕ, ◌+◌, ◌*◌, ◌/◌, ◌%◌, ◌^◌, ◌<◌, ◌⊎◌, Bool, true, false, cond}
-use Rattle.std.proofs.Common.{◌-◌, List, [], ◌∷◌, ◌++◌, get_or, take, drop, length, Option, Some}
-use Rattle.std.proofs.Common.{None, Result, Ok, Err, refl, sym, ap, subst, ◌∙◌, arith, inl, inr}
-use Rattle.std.specs.Prelude.{◌==◌, ◌&&◌, not, codes}
-use Rattle.std.specs.Int.{bytes_high_first}
-use Rattle.std.specs.List.{AllByRecursion}
-use Rattle.std.specs.Bool.{Decides}
-use Rattle.std.proofs.lemmas.Bool.{and_parts, cases_lt, not-true}
-use Rattle.std.proofs.lemmas.Bool.Decides.{nat_tests, Decides-eqb}
-use Rattle.std.proofs.lemmas.Slice.Eq.{bytes_eq-Decides}
-use Rattle.hex.specs.Hex.{decode_of, encode_upper, encode_with}
+use Rattle.chan_deck.proofs.Names.{[], address_digits, all_append, AllByRecursion, and_parts, ap, Area, area_digits, arith, Bool, byte_digits, bytes_eq-Decides, bytes_high_first, cases_lt, cond, cylinder_digits, D2311, D2314, Decides, Decides-eqb, device, drop, encode_upper, encode_with, end, Err, extent, false, fetch, get_or, HasForm, header, inl, inr, IsAddress, IsArea, IsByte, Item, length, limit, line, LineSays, LineSaysIfAny, List, mask, nat_tests, None, not, not-true, Ok, Option, put, refl, Result, size_digits, Some, start, storage, STORAGE_LIMIT, store, subst, sym, take, true, ℕ, ◌%◌, ◌*◌, ◌++◌, ◌+◌, ◌-◌, ◌/◌, ◌<◌, ◌==◌, ◌^◌, ◌∙◌, ◌∷◌, ◌≡◌, ◌⊎◌}
+use Rattle.std.specs.Prelude.{◌&&◌, codes}
+use Rattle.hex.specs.Hex.{decode_of}
 use Rattle.hex.specs.declared.error.FromHexError.{FromHexError}
 use Rattle.hex.proofs.HexLemmas.{decode_of-encode_upper}
-use Rattle.ccw_core.specs.declared.areas.Area.{Area}
-use Rattle.ckd_core.specs.declared.device.Device.TheVariants.{D2311, D2314}
-use Rattle.chan_deck.specs.Item.{Item, header, device, mask, start, limit, extent, fetch, store}
-use Rattle.chan_deck.specs.Item.{storage, put, end, line, HasForm, LineSaysIfAny, LineSays, IsByte}
-use Rattle.chan_deck.specs.Item.{IsAddress, IsArea, byte_digits, address_digits, size_digits}
-use Rattle.chan_deck.specs.Item.{limit_digits, cylinder_digits, area_digits}
+use Rattle.chan_deck.specs.Item.{limit_digits}
 use Rattle.chan_deck.specs.declared.version.VersionNumber.TheVariants as numbers
-use Rattle.chan_walk.proofs.Theory.Lists.{all_append}
 use Rattle.chan_deck.proofs.Elements.{all_drop}
 use Rattle.chan_deck.proofs.ByteNumbers.{bytes_three, bytes_four}
 use Rattle.chan_deck.proofs.UpperDigits.{bytes_at, encoded_pass, with_zero}
-use Rattle.ccw_core.specs.declared.ccw.TheConstants.{STORAGE_LIMIT}
 
 -- ---- no line feeds
 

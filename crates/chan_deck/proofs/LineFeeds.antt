@@ -1,12 +1,7 @@
 -- The first line feed of a text ends its first line.
-use Rattle.std.proofs.Common.{◌≡◌, ◌<◌, ◌≤◌, ℕ, suc, ◌+◌, Bool, false, List, [], ◌∷◌, ◌++◌, length}
-use Rattle.std.proofs.Common.{take, drop, slice_index, Some, None, refl, subst, arith, inl, inr}
-use Rattle.std.specs.Prelude.{◌==◌, position}
-use Rattle.std.specs.List.{list_any, position_or_len}
+use Rattle.chan_deck.proofs.Names.{[], arith, Bool, common_steps, drop, false, inl, inr, length, List, list_any, nat_tests, None, position, refl, slice_index, Some, split, subst, suc, take, ℕ, ◌++◌, ◌+◌, ◌<◌, ◌==◌, ◌∷◌, ◌≡◌, ◌≤◌}
+use Rattle.std.specs.List.{position_or_len}
 use Rattle.std.proofs.lemmas.Bool.{cases_Bool}
-use Rattle.std.proofs.lemmas.Bool.Decides.{nat_tests}
-use Rattle.std.proofs.lemmas.Grind.{common_steps}
-use Rattle.chan_deck.specs.Refused.{split}
 
 abbrev feed : ℕ → Bool
 feed b = b == 10

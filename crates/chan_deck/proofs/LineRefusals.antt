@@ -1,13 +1,8 @@
 -- What a line does to where reading stands, by the item that it is read as.
-use Rattle.std.proofs.Common.{◌≡◌, ℕ, true, cond, List, [], ◌∷◌, length, Ok, Err, refl, ap, arith}
-use Rattle.std.proofs.Common.{◌<◌}
-use Rattle.chan_deck.specs.Refused.{is_size}
-use Rattle.ccw_core.specs.declared.areas.Area.{Area}
-use Rattle.chan_deck.specs.Item.{storage, said_by}
-use Rattle.chan_deck.specs.Reading.{State, IsLessLeft, Listing, Filling, step, after_line}
+use Rattle.chan_deck.proofs.Names.{[], after_line, ap, Area, arith, cond, Err, Filling, Heading, is_size, length, List, Listing, Ok, refl, said_by, State, step, storage, true, ℕ, ◌<◌, ◌∷◌, ◌≡◌}
+use Rattle.chan_deck.specs.Reading.{IsLessLeft}
 use Rattle.chan_deck.specs.declared.item.Item.{Item}
 use Rattle.chan_deck.specs.declared.item.Item.TheVariants as found
-use Rattle.chan_deck.specs.declared.heading.Heading.{Heading}
 use Rattle.chan_deck.specs.declared.cause.Cause.TheVariants as causes
 
 -- ---- forms that may not stand

@@ -1,22 +1,15 @@
 -- What was seen of a job is listed as the job's places are.
-use Rattle.std.proofs.Common.{◌≡◌, ◌∷◌, [], ◌++◌, ◌∙◌, ap, List, Option, Some, None, refl, inl, inr}
-use Rattle.std.proofs.Common.{codes, if◌then◌else◌}
-use Rattle.std.specs.List.{flat_map}
+use Rattle.chan_deck.proofs.Names.{[], address_text, ap, codes, flat_map, if◌then◌else◌, inl, inr, Job, List, marked_row, None, Option, Place, refl, seen_row, Some, storage_of, verdict_line, ◌++◌, ◌∙◌, ◌∷◌, ◌≡◌}
 use Rattle.ccw_core.specs.Ccw.{Fields}
 use Rattle.ccw_core.specs.Storage.{ccw_at}
 use Rattle.ckd_core.specs.Command.{lookup}
-use Rattle.chan_walk.specs.declared.job.Job.{Job}
 use Rattle.chan_walk.specs.declared.place.Entry.{Entry}
 use Rattle.chan_walk.specs.declared.place.Entry.TheVariants.{Fresh, ChainIn, ChainOut, ChainSearch}
-use Rattle.chan_walk.specs.declared.place.Place.{Place}
 use Rattle.chan_walk.specs.declared.verdict.Verdict.{Verdict}
-use Rattle.chan_walk.specs.Job.{storage_of}
 use Rattle.chan_walk.specs.Look.{Seen, IsLook, AreLooks, places_of_looks}
 use Rattle.chan_walk.specs.Place.{is_fresh}
 use Rattle.chan_walk.specs.Visit.{begun_at}
-use Rattle.chan_deck.specs.Listing.{listing, marked_row, row_with, command_of, is_named, seen_row}
-use Rattle.chan_deck.specs.Listing.{seen_listing, word_text, way_word, transfer_word, mark_word}
-use Rattle.chan_deck.specs.VerdictLine.{address_text, verdict_line}
+use Rattle.chan_deck.specs.Listing.{listing, row_with, command_of, is_named, seen_listing, word_text, way_word, transfer_word, mark_word}
 
 named_by : (e : Entry) (c : Fields) → word_text e (Some c) (if is_fresh e then lookup c.command else None) ≡ word_text e (Some c) (lookup c.command)
 named_by Fresh c = refl

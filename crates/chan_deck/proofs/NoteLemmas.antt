@@ -1,10 +1,5 @@
 -- Texts to which notes are added.
-use Rattle.std.proofs.Common.{◌≡◌, ℕ, ◌<◌, ◌≤◌, Bool, true, false, List, [], ◌∷◌, if◌then◌else◌}
-use Rattle.std.proofs.Common.{length, arith, refl, sym, ap, ◌∙◌, Option, None, Some, zero, suc}
-use Rattle.ccw_core.specs.declared.areas.Area.{Area}
-use Rattle.chan_walk.specs.declared.place.Place.{Place}
-use Rattle.chan_deck.specs.Notes.{HasNotesAdded, areas_adjoin, joined_from, number_of_hangs}
-use Rattle.chan_deck.specs.Notes.{joined_area, with_neighbours_joined}
+use Rattle.chan_deck.proofs.Names.{[], ap, Area, areas_adjoin, arith, Bool, false, HasNotesAdded, if◌then◌else◌, joined_area, joined_from, length, List, None, number_of_hangs, Option, Place, refl, Some, suc, sym, true, with_neighbours_joined, zero, ℕ, ◌<◌, ◌∙◌, ◌∷◌, ◌≡◌, ◌≤◌}
 
 no_longer : (count : ℕ) (old mid new : List ℕ) → 0 < count → HasNotesAdded count old mid → length mid ≤ length new → length old < length new
 no_longer count old mid new some before kept = let grew : length old < length mid = before.some some in omega (arith, grew, kept)

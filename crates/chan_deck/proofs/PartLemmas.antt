@@ -1,21 +1,9 @@
 -- The parts of a deck: its areas, and the storage of an image.
-use Rattle.std.proofs.Common.{◌≡◌, ℕ, zero, suc, ◌+◌, ◌-◌, ◌*◌, ◌/◌, ◌%◌, ◌<◌, ◌≤◌, true, List}
-use Rattle.std.proofs.Common.{[], ◌∷◌, ◌++◌, Result, Ok, Err, IfOk, OnOk, length, get_or, take}
-use Rattle.std.proofs.Common.{drop, sym, ap, ◌∙◌, append_assoc, arith, length-append}
-use Rattle.std.specs.Int.{next_multiple_of}
-use Rattle.std.specs.List.{AllByRecursion}
-use Rattle.std.proofs.lemmas.List.{length-replicate, take-replicate, drop-replicate}
-use Rattle.std.proofs.lemmas.List.{replicate-append-replicate}
-use Rattle.ckd_core.specs.Extents.{AreExtents}
-use Rattle.ckd_core.specs.Mask.{is_mask}
-use Rattle.chan_walk.proofs.Theory.Lists.{all_append}
-use Rattle.chan_deck.specs.Image.{HasLimit, IsDeck}
-use Rattle.chan_deck.specs.Item.{IsByte}
-use Rattle.chan_deck.specs.PartsImage.{HasShortAddresses, image_of_parts, storage_with}
-use Rattle.chan_deck.specs.PartsImage.{version_with, zeros}
+use Rattle.chan_deck.proofs.Names.{[], all_append, AllByRecursion, ap, append_assoc, AreExtents, arith, drop, drop-replicate, Err, get_or, HasLimit, image_of_parts, is_mask, IsByte, IsDeck, length, length-append, length-replicate, List, next_multiple_of, Ok, replicate-append-replicate, Result, STORAGE_LIMIT, storage_with, suc, sym, take, take-replicate, true, zero, zeros, ℕ, ◌%◌, ◌*◌, ◌++◌, ◌+◌, ◌-◌, ◌/◌, ◌<◌, ◌∙◌, ◌∷◌, ◌≡◌, ◌≤◌}
+use Rattle.std.proofs.Common.{IfOk, OnOk}
+use Rattle.chan_deck.specs.PartsImage.{HasShortAddresses, version_with}
 use Rattle.chan_deck.specs.declared.parts.Parts.{Parts}
 use Rattle.chan_deck.proofs.StepLemmas.{bytes_pad, bytes_zeros}
-use Rattle.ccw_core.specs.declared.ccw.TheConstants.{STORAGE_LIMIT}
 
 -- an image that was put into zeros, with what stands before and behind it
 pub storage_is : (at : ℕ) (image bytes : List ℕ)

@@ -1,16 +1,10 @@
 -- What a text that is written in pieces becomes, piece by piece.
-use Rattle.std.proofs.Common.{◌≡◌, ◌∙◌, ◌∷◌, [], ◌++◌, ap, sym, subst, List, ℕ, suc, Option, arith}
-use Rattle.std.proofs.Common.{add-one, append_assoc, append-nil, get_or, length, take, drop, ◌+◌}
-use Rattle.std.proofs.Common.{◌<◌}
-use Rattle.std.proofs.lemmas.Grind.{flat_map-append}
-use Rattle.std.proofs.lemmas.List.{take-append-drop}
-use Rattle.std.proofs.Math.Seq.{drop-cons, take-length, take-suc}
-use Rattle.std.specs.Io.KnownBytes.{Appends}
-use Rattle.std.specs.List.{flat_map}
-use Rattle.std.proofs.KnownBytes.{Appends-nil, Appends-trans}
-use Rattle.ccw_core.proofs.Prefixes.{prefix_of_more, prefix_after}
-use Rattle.ccw_core.specs.Written.{AppendsPrefix}
-use Rattle.chan_deck.specs.WrittenInPieces.{IsHeldBack, AppendsInPieces, BreaksOff}
+use Rattle.chan_deck.proofs.Names.{[], add-one, ap, append_assoc, Appends, Appends-nil, AppendsInPieces, AppendsPrefix, arith, drop, flat_map, flat_map-append, get_or, IsHeldBack, length, List, Option, prefix_of_more, subst, suc, sym, take, take-append-drop, take-suc, ℕ, ◌++◌, ◌+◌, ◌<◌, ◌∙◌, ◌∷◌, ◌≡◌}
+use Rattle.std.proofs.Common.{append-nil}
+use Rattle.std.proofs.Math.Seq.{drop-cons, take-length}
+use Rattle.std.proofs.KnownBytes.{Appends-trans}
+use Rattle.ccw_core.proofs.Prefixes.{prefix_after}
+use Rattle.chan_deck.specs.WrittenInPieces.{BreaksOff}
 
 -- a text of which nothing was written
 pub all_held : {a : Option (List ℕ)} {text held : List ℕ} → held ≡ text → IsHeldBack a a text held

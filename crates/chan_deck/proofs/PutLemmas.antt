@@ -1,12 +1,7 @@
 -- The puts of storage: those of two parts, of zeros, and of one doubleword more.
-use Rattle.std.proofs.Common.{◌≡◌, ℕ, zero, suc, ◌+◌, ◌-◌, ◌*◌, ◌/◌, ◌%◌, ◌≤◌, Bool, true, false}
-use Rattle.std.proofs.Common.{cond, List, [], ◌∷◌, ◌++◌, length, take, drop, refl, sym, ap, ◌∙◌}
-use Rattle.std.proofs.Common.{arith, replicate, length-append, length-drop, add-zero, zero-add}
-use Rattle.std.proofs.lemmas.List.{length-replicate, nil_from_length, take-append-le}
-use Rattle.std.proofs.lemmas.List.{drop-append-le, drop-replicate, append-nil, take_at}
-use Rattle.chan_deck.specs.Item.{Item, put}
-use Rattle.chan_deck.specs.Image.{puts, is_zero}
-use Rattle.chan_deck.specs.Reading.{pad}
+use Rattle.chan_deck.proofs.Names.{[], ap, append-nil, arith, Bool, cond, drop, drop-replicate, false, is_zero, Item, length, length-append, length-drop, length-replicate, List, pad, put, puts, refl, replicate, suc, sym, take, take-append-le, take_at, true, zero, ℕ, ◌%◌, ◌*◌, ◌++◌, ◌+◌, ◌-◌, ◌/◌, ◌∙◌, ◌∷◌, ◌≡◌, ◌≤◌}
+use Rattle.std.proofs.Common.{add-zero, zero-add}
+use Rattle.std.proofs.lemmas.List.{nil_from_length, drop-append-le}
 
 pub length_pad : (bytes : List ℕ) (n : ℕ) → length bytes ≤ n → length (pad bytes n) ≡ n
 length_pad bytes n h = rw (length-append bytes (replicate (n - length bytes) 0), length-replicate {A = ℕ} (n - length bytes) 0) (omega arith)

@@ -1,8 +1,6 @@
 -- The ranges of some addresses, address by address.
-use Rattle.std.proofs.Common.{◌≡◌, ◌∷◌, [], ◌++◌, ◌∙◌, ◌+◌, ◌-◌, ◌<◌, ◌≤◌, ap, sym, List, ℕ, suc}
-use Rattle.std.proofs.Common.{refl, append_assoc, arith, drop, drop-cons, get_or, length}
-use Rattle.std.proofs.Common.{length-drop}
-use Rattle.chan_deck.specs.Explanation.{begin_after, between, range_end, ranges_behind}
+use Rattle.chan_deck.proofs.Names.{[], ap, append_assoc, arith, drop, drop-cons, get_or, length, length-drop, List, ranges_behind, refl, suc, sym, ℕ, ◌++◌, ◌+◌, ◌-◌, ◌<◌, ◌∙◌, ◌∷◌, ◌≡◌, ◌≤◌}
+use Rattle.chan_deck.specs.Explanation.{begin_after, between, range_end}
 
 -- those behind an address and the next
 ranges_left : (f : ℕ) (bs : List ℕ) (at d : ℕ) → 0 < at → at < length bs → ranges_behind f (drop (at - 1) bs)

@@ -1,29 +1,15 @@
 -- What one line more does to where reading stands: it goes on, or the text is refused there, or it has spelled a deck.
-use Rattle.std.proofs.Common.{◌≡◌, ℕ, ◌+◌, ◌-◌, ◌<◌, ◌⊎◌, false, List, [], ◌∷◌, ◌++◌, length, take}
-use Rattle.std.proofs.Common.{drop, map, Option, Some, None, MatchBool, Result, Ok, Err, refl, sym}
-use Rattle.std.proofs.Common.{ap, subst, ◌∙◌, append_assoc, arith, inl, inr, length-append}
-use Rattle.std.specs.Prelude.{◌==◌, position}
-use Rattle.std.proofs.lemmas.Bool.Decides.{nat_tests}
-use Rattle.std.proofs.lemmas.List.{append-nil, length-map, map-append}
+use Rattle.chan_deck.proofs.Names.{[], after_line, all_append, and_then, ap, append-nil, append_assoc, arith, Cause, drop, Err, false, Found, HasForm, HasRead, Image, inl, inr, is_whole, IsDeckCause, IsDeckError, IsRefusedAt, Item, items, length, length-append, length-map, line, lines, LineSaysIfAny, List, map, map-append, MatchBool, nat_tests, None, Ok, Opening, Option, part, position, rank, refl, Result, run, Some, Spells, split, State, subst, sym, take, text, Whole, whole_line, ℕ, ◌++◌, ◌+◌, ◌-◌, ◌<◌, ◌==◌, ◌∙◌, ◌∷◌, ◌≡◌, ◌⊎◌}
 use Rattle.std.proofs.Math.Seq.{take-append_seam, drop-append_seam}
-use Rattle.chan_walk.proofs.Theory.Lists.{all_append}
-use Rattle.chan_deck.specs.Item.{Item, line, text, HasForm, LineSaysIfAny}
-use Rattle.chan_deck.specs.Image.{Image, items, Spells}
-use Rattle.chan_deck.specs.Refused.{split, lines, IsRefusedAt, Found, whole_line, part, found_in}
-use Rattle.chan_deck.specs.Refused.{found_behind, AreSaid, IsDeckCause, IsRefused, rank}
-use Rattle.chan_deck.specs.Reading.{State, Opening, Whole, HasRead, after_line, and_then, run}
-use Rattle.chan_deck.specs.Reading.{is_whole, IsDeckError}
+use Rattle.chan_deck.specs.Refused.{found_in, found_behind, AreSaid, IsRefused}
 use Rattle.chan_deck.specs.declared.error.DeckError.{DeckError}
 use Rattle.chan_deck.specs.declared.error.DeckError.TheVariants as errors
 use Rattle.chan_deck.proofs.ItemLemmas.{line_read}
 use Rattle.chan_deck.proofs.LineFeeds.{some_line, no_line}
 use Rattle.chan_deck.proofs.StepLemmas.{said}
 use Rattle.chan_deck.proofs.DeckRuns.{run-append, reads_deck}
-use Rattle.chan_deck.proofs.FrontLemmas.{one_deck, is_state, says_said, refused_at_line}
-use Rattle.chan_deck.proofs.FrontLemmas.{refused_at_end, whole_front, no_front, split_deck}
-use Rattle.chan_deck.proofs.FrontLemmas.{items_form, said_once, join}
+use Rattle.chan_deck.proofs.FrontLemmas.{one_deck, is_state, says_said, refused_at_line, refused_at_end, whole_front, no_front, split_deck, items_form, said_once, join}
 use Rattle.chan_deck.proofs.CauseLemmas.{one_rank, line_cause, all_refused, end_cause, after_cause}
-use Rattle.chan_deck.specs.declared.cause.Cause.{Cause}
 use Rattle.chan_deck.specs.declared.cause.Cause.TheVariants as causes
 
 -- nothing is read yet

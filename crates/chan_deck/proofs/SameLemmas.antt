@@ -1,19 +1,12 @@
 -- Decks that compare as equal are one.
-use Rattle.std.proofs.Common.{◌≡◌, ℕ, true, ◌&&◌, refl, sym, ap, ◌∙◌, arith}
+use Rattle.chan_deck.proofs.Names.{and_parts, ap, Area, arith, bytes_eq-Decides, D2311, D2314, Decides, Device, eqb-true, Image, One, refl, sym, true, Two, Version, ℕ, ◌&&◌, ◌∙◌, ◌≡◌}
 use Rattle.std.specs.Prelude.{nat_eq}
-use Rattle.std.specs.Bool.{Decides}
-use Rattle.std.proofs.lemmas.Bool.{eqb-true, eq-eqb, and_parts, and_from}
-use Rattle.std.proofs.lemmas.Slice.Eq.{slice_eq-Decides, bytes_eq-Decides}
+use Rattle.std.proofs.lemmas.Bool.{eq-eqb, and_from}
+use Rattle.std.proofs.lemmas.Slice.Eq.{slice_eq-Decides}
 use Rattle.ckd_core.proofs.CylinderLemmas.{same_extents-decides}
-use Rattle.ccw_core.specs.declared.areas.Area.{Area}
 use Rattle.ckd_core.specs.Extents.{same_extents}
-use Rattle.ckd_core.specs.declared.device.Device.{Device}
-use Rattle.ckd_core.specs.declared.device.Device.TheVariants.{D2311, D2314}
-use Rattle.chan_deck.specs.Image.{Image, version_number, limit_of}
-use Rattle.chan_deck.specs.declared.version.Version.{Version}
-use Rattle.chan_deck.specs.declared.version.Version.TheVariants.{One, Two}
-use Rattle.chan_deck.specs.SameDecks.{model_of, same_areas, same_versions, same_decks}
-use Rattle.chan_deck.specs.SameDecks.{same_decks-IsEquivalence}
+use Rattle.chan_deck.specs.Image.{version_number, limit_of}
+use Rattle.chan_deck.specs.SameDecks.{model_of, same_areas, same_versions, same_decks, same_decks-IsEquivalence}
 
 abbrev pair : ℕ → ℕ → ℕ × ℕ
 pair a b = (a, b)

@@ -1,37 +1,11 @@
 -- What has been said where reading stands, and that a step says one line more.
-use Rattle.std.proofs.Common.{◌≡◌, ℕ, zero, suc, ◌+◌, ◌-◌, ◌/◌, ◌%◌, ◌<◌, ◌≤◌, true, false}
-use Rattle.std.proofs.Common.{ltb, List, [], ◌∷◌, ◌++◌, length, map, Result, Ok, Option, Some, None}
-use Rattle.std.proofs.Common.{refl, sym, ap, subst, ◌∙◌, append_assoc, arith, replicate}
-use Rattle.std.proofs.Common.{length-append, lit<, ◌&&◌}
-use Rattle.std.specs.Prelude.{◌==◌, nat_le}
-use Rattle.std.proofs.lemmas.Bool.Decides.{nat_tests}
-use Rattle.std.proofs.lemmas.Bool.{ltb-false, leb-true, eqb-true, and_parts, cond_both}
+use Rattle.chan_deck.proofs.Names.{[], after_item, all_append, AllByRecursion, and_parts, ap, append-nil, append_assoc, Area, arith, Cause, cond_both, Device, device, end, eqb-true, extent, extent_of, false, fetch, Filling, HasForm, HasLimit, header, header_of, Heading, Image, image_of, is_limit, is_mask, is_size, is_zero, IsAddress, IsArea, IsByte, IsDeck, IsExtent, Item, items, LAST_CYLINDER, last_of, leb-true, length, length-append, limit, limit_line, List, Listing, lit<, ltb, ltb-false, map, map-append, mask, Masked, Named, nat_le, nat_tests, None, Ok, on_extent, on_put, OnDevice, One, Opening, Option, pad, put, puts, refl, replicate, Result, Some, stands, start, Started, State, step, storage, STORAGE_LIMIT, store, subst, suc, sym, true, Two, VersionNumber, Whole, zero, ℕ, ◌%◌, ◌&&◌, ◌++◌, ◌+◌, ◌-◌, ◌/◌, ◌<◌, ◌==◌, ◌∙◌, ◌∷◌, ◌≡◌, ◌≤◌}
 use Rattle.std.proofs.lemmas.Result.{IfOk-at_ok}
 use Rattle.std.specs.Result.{IfOk}
 use Rattle.chan_deck.proofs.PutLemmas.{length_pad, puts-padded, puts-put}
-use Rattle.std.proofs.lemmas.List.{map-append, append-nil}
-use Rattle.std.specs.List.{AllByRecursion}
-use Rattle.chan_walk.proofs.Theory.Lists.{all_append}
-use Rattle.ccw_core.specs.declared.areas.Area.{Area}
-use Rattle.ckd_core.specs.declared.device.Device.{Device}
-use Rattle.ckd_core.specs.Extents.{IsExtent}
-use Rattle.ckd_core.specs.Mask.{is_mask}
-use Rattle.chan_deck.specs.Item.{Item, header, device, mask, start, limit, extent, fetch, store}
-use Rattle.chan_deck.specs.Item.{storage, put, end, HasForm, IsByte, IsAddress, IsArea}
-use Rattle.chan_deck.specs.Image.{Image, IsDeck, HasLimit, header_of, limit_line, items, puts}
-use Rattle.chan_deck.specs.Image.{is_zero, extent_of}
-use Rattle.chan_deck.specs.Refused.{last_of, is_size, is_limit}
-use Rattle.chan_deck.specs.Reading.{State, Opening, Named, OnDevice, Masked, Started, Listing}
-use Rattle.chan_deck.specs.Reading.{Filling, Whole, step, pad, image_of, stands, after_item}
-use Rattle.chan_deck.specs.Reading.{on_extent, on_storage, on_put}
-use Rattle.chan_deck.specs.declared.heading.Heading.{Heading}
+use Rattle.chan_deck.specs.Reading.{on_storage}
 use Rattle.chan_walk.specs.Limit.{IsLimit}
-use Rattle.chan_deck.specs.declared.version.Version.TheVariants.{One, Two}
-use Rattle.chan_deck.specs.declared.version.VersionNumber.{VersionNumber}
 use Rattle.chan_deck.specs.declared.version.VersionNumber.TheVariants as numbers
-use Rattle.chan_deck.specs.declared.cause.Cause.{Cause}
-use Rattle.ckd_core.specs.declared.device.TheConstants.{LAST_CYLINDER}
-use Rattle.ccw_core.specs.declared.ccw.TheConstants.{STORAGE_LIMIT}
 
 -- ---- what has been said
 
@@ -187,13 +161,7 @@ extent_more h es first last are =
 fetch_more : (h : Heading) (e : ℕ × ℕ) (es : List (ℕ × ℕ)) (fs : List Area) (a : Area)
     → AreLists h (e ∷ es) fs [] → IsArea a → Says_more (Listing h (e ∷ es) fs []) (fetch a) (Listing h (e ∷ es) (fs ++ a ∷ []) [])
 fetch_more h e es fs a are form = (
-  record {
-    heading = are.heading;
-    after = tt;
-    extents = are.extents;
-    fetch = all_append IsArea fs (a ∷ []) are.fetch (form, tt);
-    store = tt;
-  },
+  record { heading = are.heading; after = tt; extents = are.extents; fetch = all_append IsArea fs (a ∷ []) are.fetch (form, tt); store = tt },
   fetch_ends h e es fs a,
   rw (map-append fetch fs (a ∷ [])) (fetch_said (heading h ++ map extent_of (e ∷ es)) (map fetch fs) (fetch a ∷ [])),
 )
@@ -201,13 +169,7 @@ fetch_more h e es fs a are form = (
 store_more : (h : Heading) (e : ℕ × ℕ) (es : List (ℕ × ℕ)) (fs ss : List Area) (a : Area)
     → AreLists h (e ∷ es) fs ss → IsArea a → Says_more (Listing h (e ∷ es) fs ss) (store a) (Listing h (e ∷ es) fs (ss ++ a ∷ []))
 store_more h e es fs ss a are form = (
-  record {
-    heading = are.heading;
-    after = tt;
-    extents = are.extents;
-    fetch = are.fetch;
-    store = all_append IsArea ss (a ∷ []) are.store (form, tt);
-  },
+  record { heading = are.heading; after = tt; extents = are.extents; fetch = are.fetch; store = all_append IsArea ss (a ∷ []) are.store (form, tt) },
   store_ends h e es fs ss a,
   rw (map-append store ss (a ∷ [])) (sym (append_assoc (heading h ++ map extent_of (e ∷ es) ++ map fetch fs) (map store ss) (store a ∷ []))),
 )

@@ -1,15 +1,9 @@
 -- Upper-case hexadecimal digits: their values, and none is a line feed.
-use Rattle.std.proofs.Common.{◌≡◌, ℕ, zero, suc, ◌*◌, ◌/◌, ◌%◌, ◌<◌, ◌≤◌, Bool, true, ◌&&◌, List}
-use Rattle.std.proofs.Common.{[], ◌∷◌, length, drop, get_or, slice_index, Option, Some, None}
-use Rattle.std.proofs.Common.{if◌then◌else◌, refl, sym, ap, subst, ◌∙◌, arith, inl, inr}
-use Rattle.std.specs.Prelude.{◌==◌, nat_lt, is_some, not}
-use Rattle.std.specs.List.{AllByRecursion}
-use Rattle.std.proofs.lemmas.Bool.{eqb-true, ltb-true, lt-ltb, le-ltb, cases_lt, and_parts}
-use Rattle.hex.specs.Hex.{IsBytes, encode_upper, encode_with, upper_digits}
+use Rattle.chan_deck.proofs.Names.{[], AllByRecursion, and_parts, ap, arith, Bool, cases_lt, drop, encode_upper, encode_with, eqb-true, get_or, if◌then◌else◌, inl, inr, IsByte, IsBytes, le-ltb, length, List, lt-ltb, ltb-true, nat_lt, None, not, Option, refl, slice_index, Some, subst, suc, sym, true, upper_digits, zero, ℕ, ◌%◌, ◌&&◌, ◌*◌, ◌/◌, ◌<◌, ◌==◌, ◌∙◌, ◌∷◌, ◌≡◌, ◌≤◌}
+use Rattle.std.specs.Prelude.{is_some}
 use Rattle.hex.proofs.HexLemmas.{length-encode_with}
 use Rattle.chan_deck.specs.Digits.{IsValue}
 use Rattle.chan_deck.specs.declared.digits.TheConstants.{VALUES}
-use Rattle.chan_deck.specs.Item.{IsByte}
 
 -- ---- tests of the table of digits
 

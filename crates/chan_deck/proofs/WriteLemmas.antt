@@ -1,15 +1,7 @@
 -- What is written, line by line.
-use Rattle.std.proofs.Common.{codes, ◌≡◌, ℕ, suc, replicate, ◌%◌, length-append, ◌+◌, ◌*◌, ◌/◌, ◌<◌}
-use Rattle.std.proofs.Common.{◌≤◌, Bool, true, false, cond, List, [], ◌∷◌, ◌++◌, length, take, drop}
-use Rattle.std.proofs.Common.{map, refl, sym, ap, ◌∙◌, append_assoc, arith, length-drop}
-use Rattle.std.specs.List.{flat_map}
-use Rattle.std.proofs.lemmas.List.{map-append, append-nil, length-replicate}
-use Rattle.ccw_core.specs.declared.areas.Area.{Area}
-use Rattle.chan_deck.specs.Item.{Item, area_digits, header, device, mask, start, fetch, store}
-use Rattle.chan_deck.specs.Item.{storage, put, end, line, text}
-use Rattle.chan_deck.specs.Image.{Image, extent_of, is_zero, puts, spelling, header_of, limit_line}
+use Rattle.chan_deck.proofs.Names.{[], ap, append-nil, append_assoc, Area, area_digits, arith, Bool, codes, cond, device, drop, end, extent_of, false, fetch, flat_map, header, header_of, Image, in_six_digits, is_zero, Item, keep_line, length, length-append, length-drop, length-replicate, limit_line, line, List, map, map-append, mask, put, puts, refl, replicate, spelling, start, storage, store, suc, sym, take, text, true, ℕ, ◌%◌, ◌*◌, ◌++◌, ◌+◌, ◌/◌, ◌<◌, ◌∙◌, ◌∷◌, ◌≡◌, ◌≤◌}
 use Rattle.chan_needs.specs.Listed.{Listed}
-use Rattle.chan_deck.specs.Needs.{granting, in_six_digits, keep_line, needs_text}
+use Rattle.chan_deck.specs.Needs.{granting, needs_text}
 use Rattle.chan_deck.proofs.FrontLemmas.{text-append}
 use Rattle.chan_deck.proofs.PutLemmas.{puts-append, puts-zero}
 

@@ -1,5 +1,5 @@
 -- Under two jobs that differ only in the start and the limit the same programs stand in storage.
-use Rattle.std.proofs.Common.{◌≡◌, ℕ, ◌≤◌, false, List, [], ◌∷◌, sym, subst, ◌⊎◌, inl, inr, ◌↔◌}
+use Rattle.std.proofs.Common.{◌≡◌, ℕ, ◌≤◌, false, List, [], ◌∷◌, sym, subst, ◌⊎◌, inl, inr, ◌↔◌, Some, None}
 use Rattle.ccw_core.specs.Ccw.{is_transfer}
 use Rattle.chan_walk.specs.declared.job.Job.{Job}
 use Rattle.chan_walk.specs.declared.place.Place.{Place}
@@ -7,13 +7,11 @@ use Rattle.chan_walk.specs.Fault.{IsClear, kind_of}
 use Rattle.chan_walk.specs.Limit.{usual_limit}
 use Rattle.chan_walk.specs.OpenJob.{open_job, IsOpenJob}
 use Rattle.chan_walk.specs.Place.{ccw_of}
-use Rattle.chan_find.specs.Programs.{start_at, IsPlainPlace, StepsTo, IsTrail, LeadsTo, IsSecondCcw}
-use Rattle.chan_find.specs.Programs.{HasSecondFrom, IsLikely, IsProgramStart, AreProgramStarts}
+use Rattle.chan_find.specs.Programs.{start_at, IsPlainPlace, StepsTo, IsTrail, LeadsTo, IsSecondCcw, HasSecondFrom, IsLikely, IsProgramStart, AreProgramStarts}
 use Rattle.chan_walk.specs.Successor.{Successor, next_of, skip_of}
 use Rattle.chan_walk.proofs.Theory.Granting.{ccw_over}
 use Rattle.chan_walk.proofs.Algorithms.Granted.{fault_over}
 use Rattle.chan_walk.proofs.Algorithms.Opened.{open_over, open_more, open_less}
-use Rattle.std.proofs.Common.{Some, None}
 
 -- the same places are clear, and have the same CCWs
 pub record AreAlike (j k : Job) : Type 0 where
@@ -24,10 +22,7 @@ turned : (j k : Job) → AreAlike j k → AreAlike k j
 turned j k e = record { clear = λ p. ((e.clear p).1, (e.clear p).0); ccw = λ p. sym (e.ccw p) }
 
 pub plain_alike : (j k : Job) → AreAlike j k → (p : Place) → IsPlainPlace j p → IsPlainPlace k p
-plain_alike j k e p h = record {
-  clear = (e.clear p).0 h.clear;
-  spare = subst (λ c. is_transfer c ≡ false → c.spare ≡ 0) (e.ccw p) h.spare;
-}
+plain_alike j k e p h = record { clear = (e.clear p).0 h.clear; spare = subst (λ c. is_transfer c ≡ false → c.spare ≡ 0) (e.ccw p) h.spare }
 
 successor_alike : (j k : Job) → AreAlike j k → (p q : Place) → Successor j p q → Successor k p q
 successor_alike j k e p q s = subst (λ c. (next_of p c (kind_of p.entered c) ≡ Some q) ⊎ (skip_of p c (kind_of p.entered c) ≡ Some q)) (e.ccw p) s
@@ -86,7 +81,4 @@ pub open_alike : (j k : Job) → IsOpenJob (record j { start = 0; limit = usual_
 open_alike j k o =
     let i = record j { start = 0; limit = usual_limit } in
     let one = open_over i k o in
-    record {
-      clear = λ p. fault_over k (open_job i) one (open_more i k o) (open_less i k o) p None;
-      ccw = λ p. ccw_over k (open_job i) one p;
-    }
+    record { clear = λ p. fault_over k (open_job i) one (open_more i k o) (open_less i k o) p None; ccw = λ p. ccw_over k (open_job i) one p }

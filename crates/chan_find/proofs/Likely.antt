@@ -1,6 +1,5 @@
 -- Likely starts: under a yes a start from which two CCWs are reachable is one.
-use Rattle.std.proofs.Common.{◌≡◌, ℕ, true, false, List, [], ◌∷◌, Some, refl, sym, ap, ◌∙◌, subst}
-use Rattle.std.proofs.Common.{◌⊎◌, inl, inr, arith}
+use Rattle.std.proofs.Common.{◌≡◌, ℕ, true, false, List, [], ◌∷◌, Some, refl, sym, ap, ◌∙◌, subst, ◌⊎◌, inl, inr, arith}
 use Rattle.std.proofs.lemmas.Bool.{cases_Bool, cases_eq}
 use Rattle.ccw_core.specs.Ccw.{Fields, is_transfer}
 use Rattle.ckd_core.specs.declared.command.Kind.{Kind}
@@ -16,12 +15,10 @@ use Rattle.chan_walk.specs.Place.{ccw_of, transferred_to}
 use Rattle.chan_walk.specs.Reachable.{IsPath, IsReachable}
 use Rattle.chan_walk.specs.Successor.{Successor, chained}
 use Rattle.chan_walk.specs.Verdict.{IsVerdict}
-use Rattle.chan_find.specs.Programs.{start_at, IsPlainPlace, IsSecondCcw, HasSecondFrom, IsLikely}
-use Rattle.chan_find.specs.Programs.{HasTwoCcws, YesIsLikely}
+use Rattle.chan_find.specs.Programs.{start_at, IsPlainPlace, IsSecondCcw, HasSecondFrom, IsLikely, HasTwoCcws, YesIsLikely}
 use Rattle.chan_walk.proofs.Theory.Checks.{no_second_transfer}
 use Rattle.chan_walk.proofs.Theory.Faults.{clear_check, yes_clear}
-use Rattle.chan_walk.proofs.Theory.Follows.{Follows, by_transfer, by_data, by_command, by_skip}
-use Rattle.chan_walk.proofs.Theory.Follows.{follows, succeeds}
+use Rattle.chan_walk.proofs.Theory.Follows.{Follows, by_transfer, by_data, by_command, by_skip, follows, succeeds}
 
 -- data chaining goes on in the way in which it was entered
 chained_on : (k : Kind) (e : Entry) (c : Fields) → chained k ≡ Some e → chained (kind_of e c) ≡ Some e

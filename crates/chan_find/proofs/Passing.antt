@@ -1,7 +1,5 @@
 -- The two passes over starts: upwards over all, and downwards over what was left.
-use Rattle.std.proofs.Common.{◌≡◌, true, ℕ, zero, suc, ◌+◌, ◌*◌, ◌/◌, ◌<◌, ◌≤◌, List, [], ◌∷◌, ◌++◌}
-use Rattle.std.proofs.Common.{length, reverse, slice_index, refl, sym, subst, ◌⊎◌, inl, inr, ◌↔◌}
-use Rattle.std.proofs.Common.{arith}
+use Rattle.std.proofs.Common.{◌≡◌, true, ℕ, zero, suc, ◌+◌, ◌*◌, ◌/◌, ◌<◌, ◌≤◌, List, [], ◌∷◌, ◌++◌, length, reverse, slice_index, refl, sym, subst, ◌⊎◌, inl, inr, ◌↔◌, arith}
 use Rattle.std.specs.List.Sorted.{IsStrictlyIncreasing}
 use Rattle.std.proofs.lemmas.Bool.{cases_lt}
 use Rattle.std.proofs.lemmas.List.{reverse-append}
@@ -9,11 +7,9 @@ use Rattle.ccw_core.specs.Storage.{Stands, is_aligned}
 use Rattle.chan_walk.specs.declared.job.Job.{Job}
 use Rattle.chan_walk.specs.declared.place.Place.{Place}
 use Rattle.chan_walk.specs.Argument.{Has}
-use Rattle.chan_find.specs.Trails.{HasByte, IsMarkedPlace, AreClosed, IsStartCovered, IsStartTaken}
-use Rattle.chan_find.specs.Trails.{IsStartOffered, AreComeTo, AreRoots}
+use Rattle.chan_find.specs.Trails.{HasByte, IsMarkedPlace, AreClosed, IsStartCovered, IsStartTaken, IsStartOffered, AreComeTo, AreRoots}
 use Rattle.chan_walk.specs.Job.{storage_of}
-use Rattle.chan_find.specs.Programs.{start_at, IsTrail, HasTrail, LeadsTo, IsLikely}
-use Rattle.chan_find.specs.Programs.{AreProgramStarts, NoEarlierLeadsTo, AreLedTo, IsRoot}
+use Rattle.chan_find.specs.Programs.{start_at, IsTrail, HasTrail, LeadsTo, IsLikely, AreProgramStarts, NoEarlierLeadsTo, AreLedTo, IsRoot}
 use Rattle.chan_walk.proofs.Theory.Lists.{has_left, has_push}
 use Rattle.chan_find.proofs.Starts.{leads_on, high_is_program, program_is_high}
 use Rattle.chan_find.proofs.Covering.{stands_byte}

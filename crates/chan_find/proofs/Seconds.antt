@@ -1,6 +1,5 @@
 -- Second CCWs: what stands one step after a place.
-use Rattle.std.proofs.Common.{◌≡◌, ℕ, Bool, true, false, IsTrue, Option, Some, None, refl, sym, ◌∙◌}
-use Rattle.std.proofs.Common.{subst, ◌⊎◌, inl, inr, ◌↔◌}
+use Rattle.std.proofs.Common.{◌≡◌, ℕ, Bool, true, false, IsTrue, Option, Some, None, refl, sym, ◌∙◌, subst, ◌⊎◌, inl, inr, ◌↔◌}
 use Rattle.std.specs.Option.{IsSomeAnd}
 use Rattle.std.proofs.lemmas.Bool.{both_ways}
 use Rattle.chan_walk.specs.declared.job.Job.{Job}

@@ -3,9 +3,7 @@ use Rattle.std.proofs.Common.{◌≡◌, ℕ, ◌<◌, ◌≤◌, List, [], ◌�
 use Rattle.std.proofs.lemmas.Bool.{cases_lt}
 use Rattle.chan_walk.specs.declared.job.Job.{Job}
 use Rattle.chan_walk.specs.declared.place.Place.{Place}
-use Rattle.chan_find.specs.Programs.{start_at, IsTrail, HasTrail, LeadsTo, IsLikely, IsProgramStart}
-use Rattle.chan_find.specs.Programs.{NoHigherLeadsTo, AreLedTo, IsRoot, TwiceIsEnough, NoneIsMissed}
-use Rattle.chan_find.specs.Programs.{ProgramsAreSeparate}
+use Rattle.chan_find.specs.Programs.{start_at, IsTrail, HasTrail, LeadsTo, IsLikely, IsProgramStart, NoHigherLeadsTo, AreLedTo, IsRoot, TwiceIsEnough, NoneIsMissed, ProgramsAreSeparate}
 
 -- ---- leading is a preorder
 

@@ -1,9 +1,7 @@
 -- Two No Operations, the first of which chains command, have a yes and two CCWs, whatever is granted.
-use Rattle.std.proofs.Common.{◌≡◌, ℕ, true, false, List, [], ◌∷◌, Option, Some, None, refl, sym, ap}
-use Rattle.std.proofs.Common.{◌∙◌, subst, ◌⊎◌, inl, inr}
+use Rattle.std.proofs.Common.{◌≡◌, ℕ, true, false, List, [], ◌∷◌, Option, Some, None, refl, sym, ap, ◌∙◌, subst, ◌⊎◌, inl, inr}
 use Rattle.std.proofs.lemmas.Bool.{both_ways}
-use Rattle.ccw_core.specs.Ccw.{Fields, ccw, chains_command, chains_data, has_data_in, has_count}
-use Rattle.ccw_core.specs.Ccw.{is_formed, is_invalid, is_transfer}
+use Rattle.ccw_core.specs.Ccw.{Fields, ccw, chains_command, chains_data, has_data_in, has_count, is_formed, is_invalid, is_transfer}
 use Rattle.ccw_core.specs.Storage.{is_aligned, is_inside}
 use Rattle.ckd_core.specs.declared.command.Kind.TheVariants.{Idle}
 use Rattle.ckd_core.specs.Command.{is_seek, lookup, recalibrates, sets_mask, table}

@@ -1,9 +1,6 @@
 -- Where the program was asked once, its answer serves for every job and every storage that keeps what it is to keep.
-use Rattle.chan_needs.proofs.Names.{AreOfOneProgram, from_open, Grants, IsVerdict, Job, open_job}
-use Rattle.chan_needs.proofs.Names.{refl, same_under_yes, Yes}
-use Rattle.chan_walk.specs.VerdictBytes.{with_storage}
+use Rattle.chan_needs.proofs.Names.{AreOfOneProgram, from_open, Grants, IsVerdict, Job, open_job, refl, same_under_yes, with_storage, Yes, yes_by_guarded}
 use Rattle.chan_needs.specs.Needs.{AskedOnce, SafeIsGranted}
-use Rattle.chan_walk.proofs.Machine.Again.{yes_by_guarded}
 use Rattle.chan_walk.proofs.Machine.Exact.{safe_is_yes}
 use Rattle.chan_walk.proofs.Machine.Yes.{yes_is_safe}
 use Rattle.chan_needs.proofs.Needing.{granted_yes, least_job}

@@ -1,14 +1,6 @@
 -- What is asked once, compared and granted is enough for a start.
-use Rattle.chan_needs.proofs.Names.{ProgramActs, ap, Bool, eq-eqb, false, Flight, from_open, inl}
-use Rattle.chan_needs.proofs.Names.{inr, IsGuarded, IsHistory, IsSameIn, IsSome, IsVerdict, List}
-use Rattle.chan_needs.proofs.Names.{None, open_job, Option, refl, ProgramWaits, same_under_yes}
-use Rattle.chan_needs.proofs.Names.{Situation, Some, Spares, storage_of, subst, sym, true, Yes, ℕ}
-use Rattle.chan_needs.proofs.Names.{[], ◌∷◌, ◌≡◌, ◌⊎◌}
-use Rattle.std.proofs.Common.{◌==◌, ◌≢◌}
-use Rattle.std.proofs.lemmas.Bool.Decides.{eqb_tells}
-use Rattle.chan_needs.specs.SideBySide.{AreJobsCompatible}
-use Rattle.chan_needs.specs.Asked.{AskedMayStart, EachMayLeave, EachMayStart, EachMayStep}
-use Rattle.chan_needs.specs.Asked.{OthersMayChange}
+use Rattle.chan_needs.proofs.Names.{[], ap, AreJobsCompatible, Bool, eq-eqb, eqb_tells, false, Flight, from_open, inl, inr, IsGuarded, IsHistory, IsSameIn, IsSome, IsVerdict, List, None, open_job, Option, ProgramActs, ProgramWaits, refl, same_under_yes, Situation, Some, Spares, storage_of, subst, sym, true, Yes, ℕ, ◌==◌, ◌∷◌, ◌≡◌, ◌≢◌, ◌⊎◌}
+use Rattle.chan_needs.specs.Asked.{AskedMayStart, EachMayLeave, EachMayStart, EachMayStep, OthersMayChange}
 use Rattle.chan_needs.proofs.Compatible.{compatible_by_jobs}
 use Rattle.chan_needs.proofs.Needing.{least_job}
 

@@ -1,8 +1,5 @@
 -- Programs that may run side by side.
-use Rattle.chan_needs.proofs.Names.{AreOfOneProgram, clear_stands, data_under_yes, IsGuarded}
-use Rattle.chan_needs.proofs.Names.{IsKept, IsNeededForStoring, IsProper, IsStoredInto, IsVerdict}
-use Rattle.chan_needs.proofs.Names.{Job, MayStoreOver, open_job, same_under_yes, stores, to_open}
-use Rattle.chan_needs.proofs.Names.{Yes, yes_clear, ℕ, ◌↔◌}
+use Rattle.chan_needs.proofs.Names.{AreOfOneProgram, clear_stands, data_under_yes, IsGuarded, IsKept, IsNeededForStoring, IsProper, IsStoredInto, IsVerdict, Job, MayStoreOver, open_job, same_under_yes, stores, to_open, Yes, yes_clear, ℕ, ◌↔◌}
 use Rattle.chan_needs.specs.Listed.{CompatibleByJobs}
 use Rattle.chan_needs.proofs.Needing.{yes_opens}
 

@@ -1,17 +1,10 @@
 -- Copying the bytes that are kept, area by area.
-use Rattle.chan_needs.proofs.Names.{All, ap, Area, arith, Bool, drop, drop-cons, false, get_or}
-use Rattle.chan_needs.proofs.Names.{HoldsAreas, leb-true, length, List, nat_le, None, refl, Some}
-use Rattle.chan_needs.proofs.Names.{subst, suc, sym, take, true, ℕ, [], ◌++◌, ◌+◌, ◌-◌, ◌<◌, ◌∙◌}
-use Rattle.chan_needs.proofs.Names.{◌∷◌, ◌≡◌, ◌≤◌}
+use Rattle.chan_needs.proofs.Names.{[], All, All-cons, All-head, All-nil, All-tail, ap, Area, arith, Bool, bytes_in, drop, drop-cons, drop_all, false, get_or, HoldsArea, HoldsAreas, IsInside, leb-true, length, length-append, List, nat_le, None, refl, Some, subst, suc, sym, take, true, ℕ, ◌++◌, ◌+◌, ◌-◌, ◌<◌, ◌∙◌, ◌∷◌, ◌≡◌, ◌≤◌}
 use Rattle.std.proofs.Common.{append_assoc, if◌then◌else◌}
 use Rattle.std.proofs.lemmas.Grind.{same_number_lists}
-use Rattle.std.proofs.lemmas.List.{append-nil, drop-drop, drop_all, get_or-drop, get_or-take}
-use Rattle.std.proofs.lemmas.List.{get_or_append_left, length-append, length-take, length-drop}
-use Rattle.std.proofs.lemmas.List.{take-append-drop}
-use Rattle.std.proofs.lemmas.List.Elements.{All-cons, All-head, All-nil, All-tail}
+use Rattle.std.proofs.lemmas.List.{append-nil, drop-drop, get_or-drop, get_or-take, get_or_append_left, length-take, length-drop, take-append-drop}
 use Rattle.std.proofs.Math.Seq.{drop-append_seam, take-append_seam}
 use Rattle.ccw_core.specs.Storage.{range_at}
-use Rattle.chan_needs.specs.Remembered.{HoldsArea, IsInside, bytes_in}
 use Rattle.chan_needs.proofs.Holding.{nowhere}
 
 -- the bytes of storage in an area

@@ -1,33 +1,15 @@
 -- What a place that was looked at asks of the mask, and the strictest mask that serves many.
-use Rattle.chan_needs.proofs.Names.{and_from, and_parts, ap, AreBounds, AreLooksOfYes, arith}
-use Rattle.chan_needs.proofs.Names.{both_ways, byte, ccw_of, clear_stands, false, Fields, get_or}
-use Rattle.chan_needs.proofs.Names.{Has, inl, inr, is_at_least, IsClear, Job, length, List, None}
-use Rattle.chan_needs.proofs.Names.{Option, Place, places_of_looks, refl, rules, Seen, Some}
-use Rattle.chan_needs.proofs.Names.{storage_of, subst, sym, true, yes_clear, ℕ, [], ◌++◌, ◌<◌, ◌↔◌}
-use Rattle.chan_needs.proofs.Names.{◌∙◌, ◌∷◌, ◌≡◌, ◌≤◌, ◌⊎◌}
-use Rattle.std.proofs.Common.{min}
-use Rattle.std.proofs.lemmas.Bool.{not_from_false}
-use Rattle.ckd_core.specs.declared.command.MaskClass.{MaskClass}
-use Rattle.ckd_core.specs.declared.command.MaskClass.TheVariants.{Plain, Recalibrate, Seek}
-use Rattle.ckd_core.specs.declared.command.MaskClass.TheVariants.{SeekCylinder, SeekHead, SetMask}
-use Rattle.ckd_core.specs.declared.command.MaskClass.TheVariants.{WriteFormat, WriteHome}
-use Rattle.ckd_core.specs.declared.command.MaskClass.TheVariants.{WriteUpdate}
-use Rattle.ckd_core.specs.Mask.{inhibits, inhibits_class}
-use Rattle.ckd_core.specs.Command.{Entry as Command, lookup, class_passes, class_sets_mask}
-use Rattle.ckd_core.specs.Command.{sets_mask}
-use Rattle.chan_walk.specs.Fault.{begins_set_mask}
-use Rattle.chan_walk.specs.Look.{IsLook}
+use Rattle.chan_needs.proofs.Names.{[], and_from, and_parts, ap, AreBounds, AreLooksOfYes, arith, begins, begins_set_mask, begun, both_ways, byte, ccw_of, ccw_seen, class_passes, clear_good, clear_stands, false, Fields, get_or, Has, has_at, inhibits, inl, inr, is_at_least, is_fresh, IsClear, IsLook, Job, length, List, lookup, mask_is_no_transfer, MaskClass, MaskServesAt, min, None, not_from_false, Option, Place, places_of_looks, Recalibrate, refl, rules, Seek, seek_level, seek_level-le, SeekCylinder, SeekHead, Seen, Some, storage_of, strict-levels, subst, sym, true, write_level, write_level-le, yes_clear, ℕ, ◌++◌, ◌<◌, ◌↔◌, ◌∙◌, ◌∷◌, ◌≡◌, ◌≤◌, ◌⊎◌}
+use Rattle.ckd_core.specs.declared.command.MaskClass.TheVariants.{Plain, SetMask, WriteFormat, WriteHome, WriteUpdate}
+use Rattle.ckd_core.specs.Mask.{inhibits_class}
+use Rattle.ckd_core.specs.Command.{Entry as Command, class_sets_mask, sets_mask}
 use Rattle.chan_walk.specs.Operand.{byte_of}
-use Rattle.chan_needs.specs.Needs.{MaskServesAt, begins}
-use Rattle.chan_walk.specs.Place.{is_fresh}
-use Rattle.chan_walk.specs.Visit.{begun, begun_at}
-use Rattle.chan_walk.proofs.Theory.Commands.{known_is_no_transfer, mask_is_no_transfer}
-use Rattle.chan_walk.proofs.Theory.Faults.{clear_good}
-use Rattle.chan_walk.proofs.Theory.Lists.{has_at, has_cases, has_left, has_right}
-use Rattle.chan_walk.proofs.Algorithms.Looking.{byte_read, place_at, ccw_seen}
-use Rattle.ckd_core.specs.Levels.{seek_level, seeks_up_to, write_level, writes_up_to}
-use Rattle.ckd_core.proofs.LevelLemmas.{permits_when, seek_level-le, seeks_up_to-le, strict-permits}
-use Rattle.ckd_core.proofs.LevelLemmas.{strict-levels, write_level-le, writes_up_to-le}
+use Rattle.chan_walk.specs.Visit.{begun_at}
+use Rattle.chan_walk.proofs.Theory.Commands.{known_is_no_transfer}
+use Rattle.chan_walk.proofs.Theory.Lists.{has_cases, has_left, has_right}
+use Rattle.chan_walk.proofs.Algorithms.Looking.{byte_read, place_at}
+use Rattle.ckd_core.specs.Levels.{seeks_up_to, writes_up_to}
+use Rattle.ckd_core.proofs.LevelLemmas.{permits_when, seeks_up_to-le, strict-permits, writes_up_to-le}
 use Rattle.chan_needs.proofs.Masking.{bounds_of_any, bounds_of_both, bounds_same}
 
 -- ---- at one place

@@ -1,32 +1,22 @@
 -- The needed mask exists where the open job has a yes: each reachable place stands in storage, so that a list has them all.
-use Rattle.chan_needs.proofs.Names.{arith, both_ways, cases_lt, ccw_of, clear_stands, eq-eqb, false}
-use Rattle.chan_needs.proofs.Names.{get_or, Has, inl, inr, IsReachable, Job, leb-true, length, List}
-use Rattle.chan_needs.proofs.Names.{map, None, open_job, Option, Place, refl, Some, storage_of}
-use Rattle.chan_needs.proofs.Names.{subst, suc, true, yes_clear, zero, ℕ, [], ◌++◌, ◌+◌, ◌<◌, ◌∷◌}
-use Rattle.chan_needs.proofs.Names.{◌≡◌, ◌≤◌, ◌⊎◌}
+use Rattle.chan_needs.proofs.Names.{[], AreClear, AreReached, arith, both_ways, cases_lt, ccw_of, clear_stands, eq-eqb, false, get_or, Has, has_at, inl, inr, is_inside, IsReachable, Job, leb-true, length, List, map, mask_of, MaskServes, None, open_job, Option, Place, refl, Some, storage_of, subst, suc, true, yes_clear, zero, ℕ, ◌++◌, ◌+◌, ◌<◌, ◌∷◌, ◌≡◌, ◌≤◌, ◌⊎◌}
 use Rattle.std.proofs.Common.{◌*◌, eqb}
 use Rattle.std.proofs.lemmas.Bool.{cases_Bool, eqb-true}
 use Rattle.std.proofs.lemmas.List.{length-map}
 use Rattle.std.proofs.lemmas.Map.Steps.{length-le_from_distinct_below}
-use Rattle.ccw_core.specs.Storage.{is_inside}
 use Rattle.chan_walk.specs.declared.successor.Next.{Next}
-use Rattle.chan_walk.specs.Places.{AreDistinct, HasMoreThan, place_number, AreReached}
+use Rattle.chan_walk.specs.Places.{AreDistinct, HasMoreThan, place_number}
 use Rattle.chan_walk.specs.Fault.{kind_of}
-use Rattle.chan_needs.specs.Needs.{NeededMaskExists, MaskServes}
+use Rattle.chan_needs.specs.Needs.{NeededMaskExists}
 use Rattle.chan_walk.specs.Place.{first_place}
 use Rattle.chan_walk.specs.Successor.{AreSuccessors, next_of, skip_of}
-use Rattle.chan_walk.specs.Verdict.{AreClear}
 use Rattle.chan_walk.specs.Walk.{AddsPlace, IsWalked, HasNoRoomFor}
 use Rattle.chan_walk.proofs.Theory.Faults.{fault_unique}
-use Rattle.chan_walk.proofs.Theory.Lists.{has_at}
 use Rattle.chan_needs.proofs.Demanding.{ServesEach, demand_of_each, HasBounds}
 use Rattle.chan_walk.proofs.Algorithms.InOrder.{distinct_numbers, has_number}
 use Rattle.chan_walk.proofs.Algorithms.Marks.{same_number, way_small}
-use Rattle.chan_walk.proofs.Algorithms.Walking.{ChainLeads, all_found, follows_exactly}
-use Rattle.chan_walk.proofs.Algorithms.Walking.{next_overflows}
-use Rattle.chan_walk.proofs.Algorithms.Walking.{skip_overflows, walked_first, walked_on}
+use Rattle.chan_walk.proofs.Algorithms.Walking.{ChainLeads, all_found, follows_exactly, next_overflows, skip_overflows, walked_first, walked_on}
 use Rattle.std.proofs.lemmas.Option.{slice_get-get_or}
-use Rattle.ckd_core.specs.Levels.{mask_of}
 use Rattle.chan_needs.proofs.Masking.{bounds_same, strictest}
 
 -- ---- one place more, or no room

@@ -1,13 +1,7 @@
 -- What the calls allow a supervisor may happen, and so may each step and each end.
-use Rattle.chan_needs.proofs.Names.{ProgramActs, ap, eq-eqb, false, Flight, inl, inr, IsSome, List}
-use Rattle.chan_needs.proofs.Names.{None, Option, refl, Remembered, ProgramWaits, Some, subst, sym}
-use Rattle.chan_needs.proofs.Names.{true, ℕ, ◌∙◌, ◌∷◌, ◌≡◌, ◌⊎◌}
-use Rattle.std.proofs.Common.{◌≢◌, ◌==◌}
-use Rattle.std.proofs.lemmas.Bool.Decides.{eqb_tells}
-use Rattle.chan_needs.specs.Supervised.{IsAllowed, IsSupervised, ProgramWaitsAt, ProgramStartsAt}
-use Rattle.chan_needs.specs.Supervised.{SupervisedGoesOn, Supervision}
-use Rattle.chan_needs.proofs.Beginning.{after, here, moved_rests, others, picked, rewritten}
-use Rattle.chan_needs.proofs.Beginning.{shares_of}
+use Rattle.chan_needs.proofs.Names.{ap, eq-eqb, eqb_tells, false, Flight, inl, inr, IsAllowed, IsSome, IsSupervised, List, None, Option, ProgramActs, ProgramStartsAt, ProgramWaits, ProgramWaitsAt, refl, Remembered, Some, subst, Supervision, sym, true, ℕ, ◌==◌, ◌∙◌, ◌∷◌, ◌≡◌, ◌≢◌, ◌⊎◌}
+use Rattle.chan_needs.specs.Supervised.{SupervisedGoesOn}
+use Rattle.chan_needs.proofs.Beginning.{after, here, moved_rests, others, picked, rewritten, shares_of}
 
 module _ (v : Supervision) (i : ℕ) (x : Option Flight) (p : Option Remembered) (t : List ℕ) (shares : (f : Flight) → x ≡ Some f → f.moment.storage ≡ t) where
   abbrev next : Supervision

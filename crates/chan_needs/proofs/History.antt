@@ -1,13 +1,7 @@
 -- Programs that start and leave at any time: each in flight is at the newest moment of a run among others, and all are apart.
-use Rattle.chan_needs.proofs.Names.{ProgramActs, ap, IsNextSituation, Flight, inl, inr, IsGuarded}
-use Rattle.chan_needs.proofs.Names.{IsHistory, IsSameIn, IsVerdict, Job, List, MayStart}
-use Rattle.chan_needs.proofs.Names.{MayStoreOver, None, Option, refl, ProgramWaits, Situation, Some}
-use Rattle.chan_needs.proofs.Names.{Spares, storage_of, subst, sym, Yes, ℕ, [], ◌∙◌, ◌∷◌, ◌≡◌, ◌⊎◌}
-use Rattle.std.specs.List.{AllByRecursion}
+use Rattle.chan_needs.proofs.Names.{[], AllByRecursion, ap, AreWell, Begins, Flight, HasMask, inl, inr, IsGuarded, IsHistory, IsNextSituation, IsSameIn, IsStart, IsVerdict, Job, List, MayStart, MayStoreOver, Moment, None, Option, ProgramActs, ProgramWaits, refl, Situation, Some, Spares, Steps, storage_of, subst, sym, Waits, Yes, ℕ, ◌∙◌, ◌∷◌, ◌≡◌, ◌⊎◌}
 use Rattle.chan_walk.specs.Headline.{IsSpared}
-use Rattle.chan_needs.specs.History.{Begins, IsWell, AreWell, StaysWell}
-use Rattle.chan_walk.specs.Job.{HasMask}
-use Rattle.chan_walk.specs.Runs.{Moment, IsStart, Steps, Waits}
+use Rattle.chan_needs.specs.History.{IsWell, StaysWell}
 use Rattle.chan_walk.proofs.Theory.Lists.{all_map}
 use Rattle.chan_walk.proofs.Machine.Yes.{no_change, each_ok, step_spares, yes_is_safe_among}
 

@@ -1,13 +1,8 @@
 -- The bytes of two merged lists.
-use Rattle.chan_needs.proofs.Names.{Area, arith, both_ways, drop, drop-cons, end_of, get_or, inl}
-use Rattle.chan_needs.proofs.Names.{inr, IsMerged, length, lies_in-cases, lies_in-nil, List, rules}
-use Rattle.chan_needs.proofs.Names.{ℕ, ◌+◌, ◌<◌, ◌∷◌, ◌≡◌, ◌≤◌, ◌⊎◌}
+use Rattle.chan_needs.proofs.Names.{Area, arith, both_ways, drop, drop-cons, drop_all, end_of, get_or, inl, inr, IsLeastOf, IsMerged, IsShared, length, lies_in-cases, lies_in-nil, List, rules, ℕ, ◌+◌, ◌<◌, ◌∷◌, ◌≡◌, ◌≤◌, ◌⊎◌}
 use Rattle.std.proofs.Common.{max, add-one}
-use Rattle.std.proofs.lemmas.List.{drop_all}
 use Rattle.ccw_core.proofs.Covering.{lies_in-at}
-use Rattle.chan_areas.specs.Merged.{IsLeastOf}
 use Rattle.chan_areas.proofs.Merging.{bytes_from}
-use Rattle.chan_needs.specs.Listed.{IsShared}
 
 -- no area
 abbrev pub nowhere : Area

@@ -1,25 +1,11 @@
 -- What a program keeps lies in storage, and how many bytes that is.
-use Rattle.chan_needs.proofs.Names.{All, and_parts, ap, Area, arith, ccw_of, end_of, get_or, Has}
-use Rattle.chan_needs.proofs.Names.{inl, inr, IsClear, IsGuarded, IsMerged, Job, leb-true, length}
-use Rattle.chan_needs.proofs.Names.{lies_in, List, open_job, refl, storage_of, subst, suc, take}
-use Rattle.chan_needs.proofs.Names.{true, zero, ℕ, [], ◌++◌, ◌+◌, ◌-◌, ◌<◌, ◌∙◌, ◌∷◌, ◌≡◌, ◌≤◌, ◌⊎◌}
-use Rattle.std.proofs.lemmas.List.{length-append, take_all, take_more}
-use Rattle.std.proofs.lemmas.List.Elements.{All-cons, All-head, All-nil, All-tail}
-use Rattle.ccw_core.specs.Storage.{is_inside, Stands}
-use Rattle.chan_areas.proofs.Merging.{lies_in-first, lies_in-rest}
+use Rattle.chan_needs.proofs.Names.{[], All, All-cons, All-head, All-nil, All-tail, and_parts, ap, Area, AreNeeds, arith, bytes_in, ccw_of, clear_check, data_in_storage, end_of, get_or, Has, inl, inr, is_fresh, is_inside, IsClear, IsGuarded, IsInside, IsMerged, Job, leb-true, length, length-append, lies_in, lies_in-first, lies_in-rest, List, Listed, mask_is_no_transfer, open_job, Place, refl, Stands, storage_of, subst, suc, take, take_all, take_more, total_len, true, zero, ℕ, ◌++◌, ◌+◌, ◌-◌, ◌<◌, ◌∙◌, ◌∷◌, ◌≡◌, ◌≤◌, ◌⊎◌}
 use Rattle.chan_walk.specs.Argument.{argument_addresses}
 use Rattle.chan_walk.specs.Guarded.{IsMaskByte, IsSeekByte}
-use Rattle.chan_walk.specs.Place.{is_fresh}
-use Rattle.chan_walk.specs.declared.place.Place.{Place}
 use Rattle.chan_walk.proofs.Algorithms.Following.{argument_below}
 use Rattle.chan_walk.proofs.Theory.Checks.{passed}
-use Rattle.chan_walk.proofs.Theory.Commands.{mask_is_no_transfer}
-use Rattle.chan_walk.proofs.Theory.Faults.{clear_check}
-use Rattle.chan_walk.proofs.Theory.OwnFaults.{data_in_storage}
 use Rattle.ccw_core.specs.Ccw.{has_count}
 use Rattle.std.proofs.lemmas.Bool.{ltb-true}
-use Rattle.chan_needs.specs.Remembered.{IsInside, bytes_in, total_len}
-use Rattle.chan_needs.specs.Listed.{AreNeeds, Listed}
 use Rattle.chan_needs.proofs.Copied.{bytes_of, length_of}
 use Rattle.chan_needs.proofs.Holding.{nowhere}
 

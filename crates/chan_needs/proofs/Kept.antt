@@ -1,8 +1,5 @@
 -- The bytes that are kept, compared area by area.
-use Rattle.chan_needs.proofs.Names.{Area, arith, drop, drop-cons, get_or, HoldsAreas, inl, inr}
-use Rattle.chan_needs.proofs.Names.{length, List, subst, suc, sym, ℕ, [], ◌+◌, ◌<◌}
-use Rattle.chan_needs.proofs.Names.{◌∷◌, ◌≡◌}
-use Rattle.chan_needs.specs.Remembered.{HoldsArea, IsFirstChanged}
+use Rattle.chan_needs.proofs.Names.{[], Area, arith, drop, drop-cons, get_or, HoldsArea, HoldsAreas, inl, inr, IsFirstChanged, length, List, subst, suc, sym, ℕ, ◌+◌, ◌<◌, ◌∷◌, ◌≡◌}
 use Rattle.chan_needs.proofs.Holding.{nowhere}
 
 -- what the areas from i on say of the bytes that are left is what all say of all

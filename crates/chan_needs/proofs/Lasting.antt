@@ -1,15 +1,6 @@
 -- A write that lasts: while it is in the table, no program starts that keeps a byte of its area.
-use Rattle.chan_needs.proofs.Names.{Area, Flight, Has, inl, inr, IsSome, List, None, Option, refl}
-use Rattle.chan_needs.proofs.Names.{Remembered, ProgramWaits, Some, subst, sym, ℕ, [], ◌∙◌, ◌∷◌}
-use Rattle.chan_needs.proofs.Names.{◌≡◌, ◌⊎◌}
-use Rattle.std.specs.List.{All}
-use Rattle.std.proofs.lemmas.Bool.{both_ways}
-use Rattle.std.proofs.lemmas.List.Elements.{All-cons, All-head, All-nil, All-tail}
-use Rattle.chan_needs.specs.Remembered.{KeepsNone}
-use Rattle.chan_needs.specs.Start.{IsCompatibleWith}
-use Rattle.chan_needs.specs.Supervised.{SupervisionGoesOn, ProgramGoesOnAt, IsLastingWrite}
-use Rattle.chan_needs.specs.Supervised.{IsListedAt, IsSparedBy}
-use Rattle.chan_needs.specs.Supervised.{LastingWrites, ProgramWaitsAt, ProgramStartsAt, Supervision}
+use Rattle.chan_needs.proofs.Names.{[], All, All-cons, All-head, All-nil, All-tail, Area, both_ways, Flight, Has, inl, inr, IsCompatibleWith, IsSome, KeepsNone, List, None, Option, ProgramGoesOnAt, ProgramStartsAt, ProgramWaits, ProgramWaitsAt, refl, Remembered, Some, subst, Supervision, SupervisionGoesOn, sym, ℕ, ◌∙◌, ◌∷◌, ◌≡◌, ◌⊎◌}
+use Rattle.chan_needs.specs.Supervised.{IsLastingWrite, IsListedAt, IsSparedBy, LastingWrites}
 
 none_kept : (f : Remembered) (area : Area) → IsLastingWrite area f → KeepsNone area f
 none_kept f area write b k = both_ways _ (write.keeps b) k.0

@@ -1,21 +1,10 @@
 -- The least byte or cylinder of lists for which something holds, element by element.
-use Rattle.chan_needs.proofs.Names.{and_from, and_parts, Area, AreExactly, arith, both_ways}
-use Rattle.chan_needs.proofs.Names.{cases_lt, drop, end_of, false, get_or, has_cylinder, inl, inr}
-use Rattle.chan_needs.proofs.Names.{IsByteOf, IsLeastOrNone, IsMerged, le-leb, leb-true, length}
-use Rattle.chan_needs.proofs.Names.{lies_in, lies_in-cases, lies_in-nil, List, map, nat_le, None}
-use Rattle.chan_needs.proofs.Names.{Option, rules, Some, subst, suc, sym, take, true, zero, ℕ, []}
-use Rattle.chan_needs.proofs.Names.{◌++◌, ◌+◌, ◌<◌, ◌↔◌, ◌∷◌, ◌≡◌, ◌≤◌, ◌⊎◌}
-use Rattle.std.proofs.Common.{◌&&◌, ◌||◌}
-use Rattle.std.proofs.lemmas.Bool.{false_from_ne_true, or_cases, or_left, or_right}
-use Rattle.std.proofs.lemmas.List.{map-append, take_all, take_more}
+use Rattle.chan_needs.proofs.Names.{[], and_from, and_parts, Area, AreExactly, arith, BeginAbove, both_ways, cases_lt, drop, end_of, Extent, false, get_or, has_cylinder, inl, inr, IsByteOf, IsLeastOrNone, IsMerged, le-leb, least_same, leb-true, length, lesser_of, lies_in, lies_in-cases, lies_in-first, lies_in-nil, List, map, map-append, nat_le, None, Option, or_cases, or_left, or_right, pair, rules, Some, subst, suc, sym, take, take_all, take_more, true, zero, ℕ, ◌&&◌, ◌++◌, ◌+◌, ◌<◌, ◌↔◌, ◌∷◌, ◌≡◌, ◌≤◌, ◌⊎◌}
+use Rattle.std.proofs.Common.{◌||◌}
+use Rattle.std.proofs.lemmas.Bool.{false_from_ne_true}
 use Rattle.std.proofs.lemmas.List.Folds.{list_any-append}
-use Rattle.chan_areas.specs.Merged.{BeginAbove}
-use Rattle.chan_needs.specs.LeastBytes.{lesser_of}
-use Rattle.chan_needs.specs.Listed.{pair}
-use Rattle.chan_needs.specs.declared.layout.Extent.{Extent}
 use Rattle.chan_needs.proofs.Holding.{nowhere}
-use Rattle.chan_areas.proofs.Gaps.{least_same}
-use Rattle.chan_areas.proofs.Merging.{lies_in-append, lies_in-first}
+use Rattle.chan_areas.proofs.Merging.{lies_in-append}
 
 -- ---- the lesser of two leasts
 

@@ -1,10 +1,7 @@
 -- Bounds of levels, and the strictest mask within them.
-use Rattle.chan_needs.proofs.Names.{ap, AreBounds, arith, sym, ℕ, ◌↔◌, ◌∙◌, ◌≡◌, ◌≤◌}
-use Rattle.std.proofs.Common.{min}
-use Rattle.ckd_core.specs.Levels.{mask_of, seek_level, write_level}
-use Rattle.ckd_core.proofs.LevelLemmas.{levels-mask_of, mask_of-levels, seek_level-le}
-use Rattle.ckd_core.proofs.LevelLemmas.{strict-levels, write_level-le}
-use Rattle.chan_needs.specs.Needs.{IsStrictest, NeededMaskIsOne}
+use Rattle.chan_needs.proofs.Names.{ap, AreBounds, arith, IsStrictest, mask_of, min, seek_level, seek_level-le, strict-levels, sym, write_level, write_level-le, ℕ, ◌↔◌, ◌∙◌, ◌≡◌, ◌≤◌}
+use Rattle.ckd_core.proofs.LevelLemmas.{levels-mask_of, mask_of-levels}
+use Rattle.chan_needs.specs.Needs.{NeededMaskIsOne}
 
 pub bounds_same : (P Q : ℕ → Type 0) (w s : ℕ) → ((m : ℕ) → P m ↔ Q m) → AreBounds P w s → AreBounds Q w s
 bounds_same P Q w s f h m = ((λ q. (h m).0 ((f m).1 q)), λ l. (f m).0 ((h m).1 l))

@@ -1,14 +1,9 @@
 -- What the answers of a supervisor's calls name is the first of its kind.
-use Rattle.chan_needs.proofs.Names.{ap, Area, arith, drop, inl, inr, List, Remembered}
-use Rattle.chan_needs.proofs.Names.{Some, subst, sym, ℕ, [], ◌+◌, ◌<◌, ◌≤◌, ◌∙◌, ◌∷◌, ◌≡◌, ◌⊎◌}
+use Rattle.chan_needs.proofs.Names.{[], AllWithin, ap, Area, arith, cases_lt, drop, inl, inr, IsFirstChanged, IsFirstChangedIn, IsInFlightAt, IsLeastOf, KeepsNone, List, listed_in, Remembered, Some, subst, sym, ℕ, ◌+◌, ◌<◌, ◌∙◌, ◌∷◌, ◌≡◌, ◌≤◌, ◌⊎◌}
 use Rattle.std.specs.Prelude.{slice_index_or}
-use Rattle.std.specs.List.{AllWithin}
-use Rattle.std.proofs.lemmas.Bool.{cases_lt}
-use Rattle.chan_areas.specs.Merged.{IsLeastOf}
 use Rattle.chan_needs.specs.History.{GoesOnToStorage}
-use Rattle.chan_needs.specs.Remembered.{IsFirstChanged, IsFirstChangedIn, IsInFlightAt}
-use Rattle.chan_needs.specs.Remembered.{IsKeeperOf, KeepsNone, NamedIsFirst}
-use Rattle.chan_needs.specs.Listed.{IsKeptIn, listed_in}
+use Rattle.chan_needs.specs.Remembered.{IsKeeperOf, NamedIsFirst}
+use Rattle.chan_needs.specs.Listed.{IsKeptIn}
 
 pub goes_on_to_storage : GoesOnToStorage
 goes_on_to_storage history t goes = goes

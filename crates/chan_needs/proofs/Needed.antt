@@ -1,29 +1,13 @@
 -- What was found under one job's yes is what each job of its program needs.
-use Rattle.chan_needs.proofs.Names.{ap, Area, AreExactly, AreLooksOfYes, AreOfOneProgram, arith}
-use Rattle.chan_needs.proofs.Names.{begins_seek, Bool, byte, ccw_of, data_under_yes, false, Fields}
-use Rattle.chan_needs.proofs.Names.{Grants, has_cylinder, HasArgument, home, is_at_least, IsGuarded}
-use Rattle.chan_needs.proofs.Names.{IsKept, IsNeededForStoring, IsReachable, IsStoredInto}
-use Rattle.chan_needs.proofs.Names.{IsVerdict, Job, length, lies_in, List, map, open_job, Place}
-use Rattle.chan_needs.proofs.Names.{places_of_looks, refl, run_of, same_under_yes, Seen, Some}
-use Rattle.chan_needs.proofs.Names.{storage_of, stores, subst, sym, to_open, true, Yes, yes_clear}
-use Rattle.chan_needs.proofs.Names.{ℕ, ◌<◌, ◌↔◌, ◌∙◌, ◌≡◌, ◌⊎◌}
-use Rattle.ccw_core.specs.Ccw.{ccw, is_transfer}
-use Rattle.ckd_core.specs.Mask.{inhibits}
+use Rattle.chan_needs.proofs.Names.{ap, Area, AreExactly, AreLooksOfYes, AreNeeds, AreOfOneProgram, AreProgramsCompatible, arith, begins, begins_recalibrate, begins_seek, begins_set_mask, Bool, byte, ccw_of, ccw_over, clear_check, data_in_storage, data_under_yes, extents_of, false, fetch_of, fetches, fetches_parts, Fields, Grants, GrantsListed, has_cylinder, HasArgument, HasStoreAndKeep, home, inhibits, is_at_least, is_transfer, IsFetchedFrom, IsGuarded, IsKept, IsNeededCylinder, IsNeededForStoring, IsReachable, IsShared, IsSought, IsStoredInto, IsStrictest, IsVerdict, Job, length, lies_in, List, Listed, map, MaskServes, MaskServesAt, open_job, pair, Place, places_of_looks, refl, run_of, same_under_yes, SeeksTo, Seen, Some, storage_of, store_of, stores, stores_parts, subst, sym, to_open, true, Yes, yes_clear, ℕ, ◌<◌, ◌↔◌, ◌∙◌, ◌≡◌, ◌⊎◌}
+use Rattle.ccw_core.specs.Ccw.{ccw}
 use Rattle.chan_walk.specs.declared.verdict.Verdict.{Verdict}
-use Rattle.chan_walk.specs.Seeks.{SeeksTo}
-use Rattle.chan_walk.specs.Fault.{begins_recalibrate, begins_set_mask, fetches}
-use Rattle.chan_walk.specs.Job.{extents_of, fetch_of, store_of}
-use Rattle.chan_needs.specs.Needs.{IsNeededCylinder, IsStrictest, MaskServes, MaskServesAt, begins}
-use Rattle.chan_walk.specs.Moved.{IsDataOf, IsFetchedFrom}
+use Rattle.chan_walk.specs.Moved.{IsDataOf}
 use Rattle.chan_walk.specs.Offence.{FirstIsVerdict, first_verdict}
-use Rattle.chan_needs.specs.Start.{ListedIsExact, GrantsListed}
-use Rattle.chan_needs.specs.Listed.{AreNeeds, HasStoreAndKeep, IsSought, Listed, IsShared}
-use Rattle.chan_needs.specs.Listed.{AreProgramsCompatible, pair}
+use Rattle.chan_needs.specs.Start.{ListedIsExact}
 use Rattle.chan_walk.specs.JobSurvey.{IsSurvey, Surveyed}
-use Rattle.chan_walk.proofs.Theory.Faults.{clear_check}
-use Rattle.chan_walk.proofs.Theory.Granting.{fetches_parts, stores_parts, turned, ccw_over}
+use Rattle.chan_walk.proofs.Theory.Granting.{turned}
 use Rattle.chan_needs.proofs.Needing.{needed_mask_is_enough, yes_opens}
-use Rattle.chan_walk.proofs.Theory.OwnFaults.{data_in_storage}
 use Rattle.chan_needs.proofs.Demanding.{ServesEach}
 use Rattle.chan_walk.proofs.Algorithms.Walking.{reached_looks}
 use Rattle.chan_needs.proofs.Seeking.{runs_of}
@@ -106,12 +90,7 @@ pub survey_looks : (k : Job) (s : Surveyed) (ls : List Seen) → IsSurvey k s
     → first_verdict s.offences ≡ Yes → FirstIsVerdict → ls ≡ s.looks → AreLooksOfYes k ls
 survey_looks k s ls is none law e =
     let r = reached_looks k s.looks ls s.found_from is.found e in
-    record {
-      proper = is.proper;
-      verdict = subst (λ (v : Verdict). IsVerdict k v) none (law k s.offences is.offences);
-      looks = r.0;
-      reached = r.1;
-    }
+    record { proper = is.proper; verdict = subst (λ (v : Verdict). IsVerdict k v) none (law k s.offences is.offences); looks = r.0; reached = r.1 }
 
 -- ---- what lists of needs say of a job
 

@@ -1,33 +1,15 @@
 -- The least job: what the open job of a program needs, and that a job which grants it has the open job's yes.
-use Rattle.chan_needs.proofs.Names.{and_from, and_parts, AreOfOneProgram, arith, begins_seek}
-use Rattle.chan_needs.proofs.Names.{both_ways, byte, cases_lt, ccw_of, cylinder_of, false}
-use Rattle.chan_needs.proofs.Names.{from_open, Grants, has_cylinder, HasArgument, home, inl, inr}
-use Rattle.chan_needs.proofs.Names.{is_at_least, IsClear, IsGuarded, IsKept, IsProper, IsReachable}
-use Rattle.chan_needs.proofs.Names.{IsVerdict, Job, le-leb, length, lies_in, List, nat_le, None}
-use Rattle.chan_needs.proofs.Names.{open_job, Option, Place, refl, same_under_yes, Some, storage_of}
-use Rattle.chan_needs.proofs.Names.{subst, sym, to_open, true, Yes, yes_clear, ℕ, ◌+◌, ◌<◌, ◌↔◌}
-use Rattle.chan_needs.proofs.Names.{◌≡◌, ◌≤◌, ◌⊎◌}
+use Rattle.chan_needs.proofs.Names.{and_from, and_parts, AreClear, AreOfOneProgram, argument_unique, arith, begins_seek, both_ways, byte, cases_lt, ccw_of, ccw_over, check_stands, clear_check, clear_good, cylinder_of, extents_of, false, fetch_of, fetches_parts, from_open, Grants, has_cylinder, HasArgument, home, inl, inr, is_at_least, is_transfer, IsClear, IsGuarded, IsKept, IsNeededCylinder, IsProper, IsReachable, IsVerdict, Job, le-leb, length, lies_in, List, mask_is_no_transfer, nat_le, None, not_from_false, open_job, Option, Place, refl, same_under_yes, SeeksTo, Some, Stands, storage_of, store_of, stores_parts, subst, sym, to_open, true, Yes, yes_clear, ℕ, ◌+◌, ◌<◌, ◌↔◌, ◌≡◌, ◌≤◌, ◌⊎◌}
 use Rattle.std.proofs.Common.{nat_lt}
-use Rattle.std.proofs.lemmas.Bool.{not-true, not-false, not_from_true, not_from_false, lt-ltb}
-use Rattle.ccw_core.specs.Ccw.{is_transfer}
+use Rattle.std.proofs.lemmas.Bool.{not-true, not-false, not_from_true, lt-ltb}
 use Rattle.ckd_core.proofs.CylinderLemmas.{has_cylinder-past}
 use Rattle.chan_walk.specs.Fault.{is_refused}
-use Rattle.chan_walk.specs.Job.{extents_of, fetch_of, store_of}
 use Rattle.chan_walk.specs.OpenJob.{all_storage, GrantsMore}
-use Rattle.chan_needs.specs.Needs.{IsOpenlyReachable, IsNeededCylinder, LeastJob}
-use Rattle.chan_needs.specs.Needs.{NeededMaskIsEnough, NoJobWillDo}
-use Rattle.chan_walk.specs.Seeks.{SeeksTo}
-use Rattle.ccw_core.specs.Storage.{Stands}
-use Rattle.chan_walk.proofs.Theory.Checks.{check_stands}
-use Rattle.chan_walk.specs.Verdict.{AreClear}
+use Rattle.chan_needs.specs.Needs.{IsOpenlyReachable, LeastJob, NeededMaskIsEnough, NoJobWillDo}
 use Rattle.chan_walk.proofs.Theory.Areas.{covered_at, allows_cylinder}
-use Rattle.chan_walk.proofs.Theory.Chains.{argument_unique}
-use Rattle.chan_walk.proofs.Theory.Commands.{mask_is_no_transfer, seek_is_no_transfer}
-use Rattle.chan_walk.proofs.Theory.Commands.{recalibrate_is_no_transfer}
-use Rattle.chan_walk.proofs.Theory.Faults.{IsGood, clear_check, clear_good, stores_from}
-use Rattle.chan_walk.proofs.Theory.Granting.{ccw_over, same_heads, stores_parts, fetches_parts}
-use Rattle.chan_walk.proofs.Theory.Granting.{allows_from, clear_over, reach_clear, yes_over}
-use Rattle.chan_walk.proofs.Theory.Granting.{more_is_yes}
+use Rattle.chan_walk.proofs.Theory.Commands.{seek_is_no_transfer, recalibrate_is_no_transfer}
+use Rattle.chan_walk.proofs.Theory.Faults.{IsGood, stores_from}
+use Rattle.chan_walk.proofs.Theory.Granting.{same_heads, allows_from, clear_over, reach_clear, yes_over, more_is_yes}
 use Rattle.ccw_core.proofs.Covering.{covered-true}
 use Rattle.chan_walk.proofs.Theory.Masks.{laxer_permits, strict_as_laxer, strict_as_open}
 use Rattle.ckd_core.specs.declared.device.TheConstants.{CYLINDERS, LAST_CYLINDER}

@@ -1,9 +1,7 @@
 -- What the laws on histories and on supervision begin with can be had.
-use Rattle.chan_needs.proofs.Names.{arith, Has, inl, inr, List, None, refl, Remembered, Situation}
-use Rattle.chan_needs.proofs.Names.{suc, ℕ, [], ◌∷◌}
+use Rattle.chan_needs.proofs.Names.{[], arith, Has, inl, inr, IsInFlightAt, List, None, refl, Remembered, Situation, suc, ℕ, ◌∷◌}
 use Rattle.chan_needs.specs.Asked.{HistoryBegins}
 use Rattle.chan_needs.specs.SideBySide.{MayRunTogether}
-use Rattle.chan_needs.specs.Remembered.{IsInFlightAt}
 use Rattle.chan_needs.specs.Supervised.{CanBeSupervised}
 
 -- nothing is in flight over a storage

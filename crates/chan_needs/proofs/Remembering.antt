@@ -1,27 +1,17 @@
 -- What is remembered of a program stays true while what is kept does, and is enough for a start.
-use Rattle.chan_needs.proofs.Names.{All, ap, Area, AreOfOneProgram, arith, both_ways, byte}
-use Rattle.chan_needs.proofs.Names.{data_under_yes, drop, Flight, Grants, HoldsAreas, inl, inr}
-use Rattle.chan_needs.proofs.Names.{IsByteOf, IsGuarded, IsKept, IsNeededForStoring, IsProper}
-use Rattle.chan_needs.proofs.Names.{IsReachable, IsSameIn, IsVerdict, Job, length, lies_in}
-use Rattle.chan_needs.proofs.Names.{lies_in-cases, lies_in-nil, List, open_job, Place, refl}
-use Rattle.chan_needs.proofs.Names.{Remembered, rules, same_under_yes, Situation, Some, storage_of}
-use Rattle.chan_needs.proofs.Names.{stores, subst, sym, to_open, true, Yes, yes_clear, ℕ, [], ◌+◌}
-use Rattle.chan_needs.proofs.Names.{◌-◌, ◌<◌, ◌↔◌, ◌∙◌, ◌∷◌, ◌≡◌, ◌⊎◌}
+use Rattle.chan_needs.proofs.Names.{[], All, ap, Area, AreInFlight, AreOfOneProgram, AreProgramsCompatible, arith, both_ways, byte, data_under_yes, drop, Flight, Grants, HasStoreAndKeep, HoldsAreas, inl, inr, IsByteOf, IsCompatibleWith, IsFit, IsGuarded, IsInFlight, IsInFlightAt, IsKept, IsNeededForStoring, IsProper, IsReachable, IsSameIn, IsVerdict, Job, KeepsNone, KeepsProgram, length, lies_in, lies_in-cases, lies_in-nil, List, Listed, listed_in, open_job, Place, refl, Remembered, rules, same_data, same_under_yes, Situation, Some, storage_of, stores, subst, sym, to_open, true, with_storage, Yes, yes_by_guarded, yes_clear, ℕ, ◌+◌, ◌-◌, ◌<◌, ◌↔◌, ◌∙◌, ◌∷◌, ◌≡◌, ◌⊎◌}
 use Rattle.ckd_core.specs.declared.device.Device.{Device}
 use Rattle.ckd_core.specs.declared.device.Device.TheVariants.{D2311, D2314}
-use Rattle.chan_walk.specs.VerdictBytes.{IsVerdictByte, with_storage}
-use Rattle.chan_needs.specs.Needs.{KeepsProgram}
-use Rattle.chan_needs.specs.Remembered.{AreInFlight, IsInFlight, IsRemembered, KeepsNone}
-use Rattle.chan_needs.specs.Remembered.{IsInFlightAt, IsWritten, WritesWell, device_number}
-use Rattle.chan_needs.specs.Start.{IsFit, IsCompatibleWith, RememberedIsFit, StartsWell}
-use Rattle.chan_needs.specs.Listed.{HasStoreAndKeep, Listed, AreProgramsCompatible, listed_in}
+use Rattle.chan_walk.specs.VerdictBytes.{IsVerdictByte}
+use Rattle.chan_needs.specs.Remembered.{IsRemembered, IsWritten, WritesWell, device_number}
+use Rattle.chan_needs.specs.Start.{RememberedIsFit, StartsWell}
 use Rattle.chan_needs.specs.Asked.{FitIsAsked, IsFlightOf}
 use Rattle.chan_walk.proofs.Algorithms.VerdictBytes.{carries_at}
 use Rattle.chan_needs.proofs.Needed.{grants_from, are_compatible, listed_is_exact}
-use Rattle.chan_walk.proofs.Machine.Again.{verdict_byte_is_guarded, yes_by_guarded}
+use Rattle.chan_walk.proofs.Machine.Again.{verdict_byte_is_guarded}
 use Rattle.chan_needs.proofs.Asking.{asked_once}
 use Rattle.chan_needs.proofs.Beginning.{asked_may_start, others_may_change}
-use Rattle.chan_walk.proofs.Theory.Transport.{CarriesOver, same_guarded, same_data}
+use Rattle.chan_walk.proofs.Theory.Transport.{CarriesOver, same_guarded}
 use Rattle.chan_needs.proofs.Needing.{least_job, yes_is_open, yes_opens}
 
 -- two devices with one number are the same

@@ -1,37 +1,14 @@
 -- The cylinders that seeks go to: at one look, and as runs.
-use Rattle.chan_needs.proofs.Names.{and_from, and_parts, ap, Area, AreExactly, arith, begins_seek}
-use Rattle.chan_needs.proofs.Names.{both_ways, ccw_of, clear_stands, cylinder_of, end_of, false}
-use Rattle.chan_needs.proofs.Names.{Fields, get_or, Has, has_cylinder, HasArgument, HoldBytes, home}
-use Rattle.chan_needs.proofs.Names.{inl, inr, IsByteOf, IsClear, IsMerged, Job, le-leb, leb-true}
-use Rattle.chan_needs.proofs.Names.{length, lies_in, lies_in-cases, lies_in-nil, List, map, nat_le}
-use Rattle.chan_needs.proofs.Names.{None, Option, option_map, Place, refl, rules, run_of}
-use Rattle.chan_needs.proofs.Names.{SeeksCylinder, Seen, Some, storage_of, subst, sym, take, true}
-use Rattle.chan_needs.proofs.Names.{ℕ, [], ◌++◌, ◌+◌, ◌-◌, ◌<◌, ◌↔◌, ◌∙◌, ◌∷◌, ◌≡◌, ◌⊎◌}
-use Rattle.std.proofs.Common.{◌&&◌}
+use Rattle.chan_needs.proofs.Names.{[], and_from, and_parts, ap, Area, AreExactly, AreReached, argument_unique, arith, BeginAbove, begins_recalibrate, begins_seek, begun, both_ways, byte_area, ccw_of, ccw_seen, class_passes, clear_stands, cylinder_of, end_of, Extent, false, Fields, get_or, Has, has_cylinder, HasArgument, HoldBytes, home, inl, inr, is_fresh, IsByteOf, IsClear, IsLook, IsMerged, IsSought, Job, le-leb, leb-true, length, lies_in, lies_in-cases, lies_in-first, lies_in-nil, lies_in-rest, List, lookup, map, map-append, MaskClass, nat_le, None, Option, option_map, or_cases, or_left, or_right, pair, Place, Recalibrate, refl, rules, run_of, Seek, SeekCylinder, SeekHead, SeeksCylinder, Seen, Some, storage_of, subst, sym, take, true, ℕ, ◌&&◌, ◌++◌, ◌+◌, ◌-◌, ◌<◌, ◌↔◌, ◌∙◌, ◌∷◌, ◌≡◌, ◌⊎◌}
 use Rattle.std.proofs.lemmas.Grind.{common_steps}
-use Rattle.std.proofs.lemmas.List.{map-append}
 use Rattle.std.proofs.Math.Seq.{take-suc}
-use Rattle.std.proofs.lemmas.Bool.{or_cases, or_left, or_right}
-use Rattle.ckd_core.specs.declared.command.MaskClass.{MaskClass}
-use Rattle.ckd_core.specs.declared.command.MaskClass.TheVariants.{Recalibrate, Seek, SeekCylinder}
-use Rattle.ckd_core.specs.declared.command.MaskClass.TheVariants.{SeekHead}
-use Rattle.ckd_core.specs.Command.{Entry as Command, class_is_seek, class_passes}
-use Rattle.ckd_core.specs.Command.{class_recalibrates, is_seek, lookup, recalibrates}
-use Rattle.chan_walk.specs.Fault.{begins_recalibrate}
-use Rattle.chan_walk.specs.Guard.{AddsBytes, byte_area}
-use Rattle.chan_walk.specs.Places.{AreReached}
-use Rattle.chan_walk.specs.Look.{IsLook}
-use Rattle.chan_walk.specs.Place.{is_fresh}
-use Rattle.chan_areas.specs.Merged.{BeginAbove}
-use Rattle.chan_needs.specs.Listed.{AreRising, AreRunsOf, IsSought, RunsAbove, pair}
-use Rattle.chan_walk.specs.Visit.{begun}
-use Rattle.chan_walk.proofs.Theory.Chains.{argument_unique}
+use Rattle.ckd_core.specs.Command.{Entry as Command, class_is_seek, class_recalibrates, is_seek, recalibrates}
+use Rattle.chan_walk.specs.Guard.{AddsBytes}
+use Rattle.chan_needs.specs.Listed.{AreRising, AreRunsOf, RunsAbove}
 use Rattle.chan_needs.proofs.Demanding.{command_at, fresh_from, none_from}
 use Rattle.chan_walk.proofs.Algorithms.Guarding.{adds_areas, lies_in-bytes}
-use Rattle.chan_areas.proofs.Merging.{lies_in-first, lies_in-rest}
-use Rattle.chan_walk.proofs.Algorithms.Looking.{argument_of, argument_read, ccw_seen}
+use Rattle.chan_walk.proofs.Algorithms.Looking.{argument_of, argument_read}
 use Rattle.chan_walk.proofs.Theory.Granting.{avoids}
-use Rattle.chan_needs.specs.declared.layout.Extent.{Extent}
 
 -- ---- at one look
 

@@ -1,15 +1,7 @@
 -- Two programs side by side are a history: the one starts, then the other, and then they run.
-use Rattle.chan_needs.proofs.Names.{ap, byte, IsNextSituation, Flight, inl, inr, IsGuarded}
-use Rattle.chan_needs.proofs.Names.{IsHistory, Job, length, List, map, MayStart, MayStoreOver, None}
-use Rattle.chan_needs.proofs.Names.{Option, refl, ProgramWaits, Situation, Some, subst, suc, zero}
-use Rattle.chan_needs.proofs.Names.{ℕ, [], ◌++◌, ◌∷◌, ◌≡◌, ◌⊎◌}
-use Rattle.std.specs.List.{AllByRecursion}
-use Rattle.chan_needs.specs.SideBySide.{TwoMoments, moments_of_one, moments_of_other, AreRunning}
-use Rattle.chan_needs.specs.SideBySide.{AreJobsCompatible, SafeSideBySide}
+use Rattle.chan_needs.proofs.Names.{[], AllByRecursion, ap, AreJobsCompatible, AreWell, Begins, byte, Flight, HasMask, inl, inr, IsGuarded, IsHistory, IsNextSituation, IsStart, Job, length, List, map, MayStart, MayStoreOver, Moment, None, Option, ProgramWaits, refl, Situation, Some, Steps, subst, suc, Waits, zero, ℕ, ◌++◌, ◌∷◌, ◌≡◌, ◌⊎◌}
+use Rattle.chan_needs.specs.SideBySide.{TwoMoments, moments_of_one, moments_of_other, AreRunning, SafeSideBySide}
 use Rattle.chan_walk.specs.Headline.{IsSafeMoment}
-use Rattle.chan_needs.specs.History.{Begins, AreWell}
-use Rattle.chan_walk.specs.Job.{HasMask}
-use Rattle.chan_walk.specs.Runs.{Moment, IsStart, Steps, Waits}
 use Rattle.chan_needs.proofs.History.{stays_well}
 
 begins : (j : Job) (m : Moment) → IsStart j m → Begins j m

@@ -1,38 +1,19 @@
 -- What was found of a program over one storage is true over each other that is the same in the kept
 -- bytes.
-use Rattle.chan_needs.proofs.Names.{begins_seek, byte, ccw_of, data_under_yes, false, Fields}
-use Rattle.chan_needs.proofs.Names.{HasArgument, inl, inr, is_at_least, IsReachable, IsVerdict, Job}
-use Rattle.chan_needs.proofs.Names.{length, lies_in, List, open_job, Option, Place, refl}
-use Rattle.chan_needs.proofs.Names.{Remembered, same_under_yes, Some, storage_of, subst, sym, true}
-use Rattle.chan_needs.proofs.Names.{Yes, yes_clear, ℕ, ◌↔◌, ◌∙◌, HoldsAreas, IsSameIn, ◌≡◌, Area}
-use Rattle.chan_needs.proofs.Names.{arith, bytes_held, drop, ◌+◌, ◌<◌, ◌∷◌, []}
-use Rattle.chan_areas.proofs.Merging.{lies_in-first, lies_in-rest}
-use Rattle.chan_walk.specs.VerdictBytes.{with_storage}
-use Rattle.chan_walk.specs.Job.{fetch_of, store_of}
-use Rattle.ccw_core.specs.Storage.{Stands}
-use Rattle.ckd_core.specs.Mask.{inhibits}
-use Rattle.chan_walk.specs.Fault.{begins_recalibrate, begins_set_mask, fetches}
-use Rattle.chan_walk.specs.Seeks.{SeeksTo}
+use Rattle.chan_needs.proofs.Names.{[], Area, argument_unique, arith, begins, begins_recalibrate, begins_seek, begins_set_mask, byte, bytes_held, ccw_of, check_stands, clear_check, data_under_yes, drop, false, fetch_of, fetches, Fields, GrantsListed, HasArgument, HoldsAreas, HoldsByte, inhibits, inl, inr, is_at_least, IsFirstChanged, IsFirstChangedIn, IsLeastOf, IsNeededCylinder, IsReachable, IsSameIn, IsVerdict, Job, KeepsProgram, length, lies_in, lies_in-first, lies_in-rest, List, Listed, listed_in, MaskServes, MaskServesAt, open_job, Option, Place, refl, Remembered, same_data, same_under_yes, SeeksTo, Some, Stands, storage_of, store_of, subst, sym, true, with_storage, Yes, yes_clear, ℕ, ◌+◌, ◌<◌, ◌↔◌, ◌∙◌, ◌∷◌, ◌≡◌}
 use Rattle.chan_walk.proofs.Algorithms.VerdictBytes.{argument_to, ccw_same, mask_byte_same}
-use Rattle.chan_walk.proofs.Theory.Chains.{argument_exists, argument_unique}
-use Rattle.chan_walk.proofs.Theory.Checks.{check_stands}
-use Rattle.chan_walk.proofs.Theory.Faults.{clear_check}
-use Rattle.chan_walk.proofs.Theory.Transport.{same_data, same_reached}
-use Rattle.chan_needs.specs.Needs.{begins, IsNeededCylinder, IsNeededForFetching, KeepsProgram}
-use Rattle.chan_needs.specs.Needs.{MaskServes, MaskServesAt}
+use Rattle.chan_walk.proofs.Theory.Chains.{argument_exists}
+use Rattle.chan_walk.proofs.Theory.Transport.{same_reached}
+use Rattle.chan_needs.specs.Needs.{IsNeededForFetching}
 use Rattle.ccw_core.specs.declared.storage.Storage.{Storage}
-use Rattle.chan_areas.specs.Merged.{IsLeastOf}
 use Rattle.chan_needs.specs.declared.start.Start.TheVariants as answer
 use Rattle.chan_needs.specs.declared.start.StartRefusal.{StartRefusal}
 use Rattle.chan_needs.specs.declared.start.StartRefusal.TheVariants as why
-use Rattle.chan_needs.specs.Remembered.{HoldsByte, HoldsKept, IsFirstChanged, IsFirstChangedIn}
-use Rattle.chan_needs.specs.Start.{GrantsListed, HasChanged, IsLent, IsNotGranted, IsOfAnother}
-use Rattle.chan_needs.specs.Start.{IsOfProgram, IsStartRefusal, LacksByte}
-use Rattle.chan_needs.specs.Listed.{Listed, listed_in}
+use Rattle.chan_needs.specs.Remembered.{HoldsKept}
+use Rattle.chan_needs.specs.Start.{HasChanged, IsLent, IsNotGranted, IsOfAnother, IsOfProgram, IsStartRefusal, LacksByte}
 use Rattle.chan_needs.specs.Staying.{AnswerStays, HeldStaysTrue, NeedsStay}
 use Rattle.chan_needs.proofs.Masking.{strictest_same}
-use Rattle.chan_needs.proofs.Remembering.{carry, counted, open_there, lists_stay, same_device}
-use Rattle.chan_needs.proofs.Remembering.{same_held, there, yes_open, yes_there}
+use Rattle.chan_needs.proofs.Remembering.{carry, counted, open_there, lists_stay, same_device, same_held, there, yes_open, yes_there}
 
 module _ (j k : Job) (keeps : KeepsProgram j k) (v : IsVerdict (open_job j) Yes) where
   abbrev mid : Job

@@ -1,12 +1,6 @@
 -- A supervisor that keeps to the answers of its calls makes a history.
-use Rattle.chan_needs.proofs.Names.{ProgramActs, ap, IsNextSituation, Flight, inl, inr, IsHistory}
-use Rattle.chan_needs.proofs.Names.{IsSome, List, map, MayStart, None, Option, refl, Remembered}
-use Rattle.chan_needs.proofs.Names.{ProgramWaits, Situation, Some, Spares, subst, sym, ℕ, [], ◌∙◌}
-use Rattle.chan_needs.proofs.Names.{◌∷◌, ◌≡◌, ◌⊎◌}
-use Rattle.chan_needs.specs.Remembered.{AreInFlight, IsInFlight}
-use Rattle.chan_needs.specs.Supervised.{SupervisionGoesOn, ProgramGoesOnAt, IsAllowed, IsSupervised}
-use Rattle.chan_needs.specs.Supervised.{IsWriting, Lists, ProgramWaitsAt, ProgramStartsAt}
-use Rattle.chan_needs.specs.Supervised.{SupervisedStaysWell, Supervision}
+use Rattle.chan_needs.proofs.Names.{[], ap, AreInFlight, Flight, inl, inr, IsAllowed, IsHistory, IsInFlight, IsNextSituation, IsSome, IsSupervised, List, map, MayStart, None, Option, ProgramActs, ProgramGoesOnAt, ProgramStartsAt, ProgramWaits, ProgramWaitsAt, refl, Remembered, Situation, Some, Spares, subst, Supervision, SupervisionGoesOn, sym, ℕ, ◌∙◌, ◌∷◌, ◌≡◌, ◌⊎◌}
+use Rattle.chan_needs.specs.Supervised.{IsWriting, Lists, SupervisedStaysWell}
 use Rattle.chan_needs.proofs.History.{stays_well}
 use Rattle.chan_needs.proofs.Remembering.{spared_by, starts_well}
 use Rattle.chan_needs.proofs.Beginning.{others}

@@ -1,6 +1,5 @@
 -- What was judged, and what was written.
-use Rattle.std.proofs.Common.{◌≡◌, ◌∙◌, ◌↔◌, Bool, Err, IsErr, Ok, OnOk, Result, false, refl, sym}
-use Rattle.std.proofs.Common.{true}
+use Rattle.std.proofs.Common.{◌≡◌, ◌∙◌, ◌↔◌, Bool, Err, IsErr, Ok, OnOk, Result, false, refl, sym, true}
 use Rattle.chan_walk.specs.declared.job.Job.{Job}
 use Rattle.chan_args.specs.declared.action.Action.{Action}
 use Rattle.chan_args.specs.declared.action.Action.TheVariants as actions

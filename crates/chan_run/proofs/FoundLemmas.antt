@@ -1,6 +1,5 @@
 -- The lines of programs that are found, one after another.
-use Rattle.std.proofs.Common.{◌≡◌, ◌∙◌, ◌<◌, ◌++◌, ◌∷◌, [], List, ap, arith, append_assoc}
-use Rattle.std.proofs.Common.{append-nil, length, refl, slice_index_or, suc, sym, take, zero, ℕ}
+use Rattle.std.proofs.Common.{◌≡◌, ◌∙◌, ◌<◌, ◌++◌, ◌∷◌, [], List, ap, arith, append_assoc, append-nil, length, refl, slice_index_or, suc, sym, take, zero, ℕ}
 use Rattle.chan_deck.specs.PartsImage.{storage_with}
 use Rattle.chan_walk.specs.declared.job.Job.{Job}
 use Rattle.chan_walk.specs.OpenJob.{open_job}

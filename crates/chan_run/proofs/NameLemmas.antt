@@ -1,7 +1,5 @@
 -- A text with a front before each line, byte by byte.
-use Rattle.std.proofs.Common.{◌≡◌, ◌∙◌, ◌++◌, ◌∷◌, ◌<◌, [], Bool, List, ap, append-nil}
-use Rattle.std.proofs.Common.{append_assoc, arith, drop, false, length, refl, slice_index_or, suc}
-use Rattle.std.proofs.Common.{sym, true, zero, ℕ}
+use Rattle.std.proofs.Common.{◌≡◌, ◌∙◌, ◌++◌, ◌∷◌, ◌<◌, [], Bool, List, ap, append-nil, append_assoc, arith, drop, false, length, refl, slice_index_or, suc, sym, true, zero, ℕ}
 use Rattle.std.specs.Prelude.{◌==◌, if◌then◌else◌}
 use Rattle.chan_run.specs.Name.{fronted}
 

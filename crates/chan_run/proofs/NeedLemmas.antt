@@ -1,6 +1,5 @@
 -- What is needed lies on the device.
-use Rattle.std.proofs.Common.{◌≡◌, ℕ, ◌≤◌, ◌<◌, ◌||◌, nat_le, true, false, List, [], ◌∷◌, ◌⊎◌, inl}
-use Rattle.std.proofs.Common.{inr, refl, arith}
+use Rattle.std.proofs.Common.{◌≡◌, ℕ, ◌≤◌, ◌<◌, ◌||◌, nat_le, true, false, List, [], ◌∷◌, ◌⊎◌, inl, inr, refl, arith}
 use Rattle.std.specs.List.{AllByRecursion}
 use Rattle.std.proofs.lemmas.Bool.{both_ways, cases_lt, le-leb}
 use Rattle.ckd_core.specs.Extents.{has_cylinder, all_cylinders, IsExtent}

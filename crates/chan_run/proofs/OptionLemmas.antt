@@ -1,15 +1,12 @@
 -- What the texts of options say: digits, and two numbers with a sign between them.
-use Rattle.std.proofs.Common.{◌≡◌, ◌∙◌, ℕ, ◌<◌, ◌≤◌, ◌^◌, true, false, ◌||◌, ◌⊎◌, inl, inr, List}
-use Rattle.std.proofs.Common.{[], ◌∷◌, length, drop, nat_eq, nat_lt, slice_index, refl, sym, ap}
-use Rattle.std.proofs.Common.{ap₂, arith, codes, unwrap_or, Option, Some, None, Result, Ok, Err}
+use Rattle.std.proofs.Common.{◌≡◌, ◌∙◌, ℕ, ◌<◌, ◌≤◌, ◌^◌, true, false, ◌||◌, ◌⊎◌, inl, inr, List, [], ◌∷◌, length, drop, nat_eq, nat_lt, slice_index, refl, sym, ap, ap₂, arith, codes, unwrap_or, Option, Some, None, Result, Ok, Err}
 use Rattle.std.specs.Char.{digit_value}
 use Rattle.std.specs.List.{list_all, starts_with}
 use Rattle.std.specs.Option.{MatchOption, option_and_then, option_map}
 use Rattle.std.specs.Result.{OkIff, result_ok}
 use Rattle.std.specs.Str.Parse.{AllDigits, IsNumeral, digits_value}
 use Rattle.std.specs.Str.Pattern.{FindsTextPrefix, StripsPrefix}
-use Rattle.std.proofs.lemmas.Bool.{and_from, and_parts, cond-true, cond-false, false_from_ne_true}
-use Rattle.std.proofs.lemmas.Bool.{ltb-true, lt-ltb, or_left}
+use Rattle.std.proofs.lemmas.Bool.{and_from, and_parts, cond-true, cond-false, false_from_ne_true, ltb-true, lt-ltb, or_left}
 use Rattle.std.proofs.lemmas.Bool.Decides.{Decides-eqb}
 use Rattle.std.proofs.lemmas.Slice.Eq.{starts_is}
 use Rattle.std.proofs.lemmas.Str.Pattern.{IsSplitOnceResult, split_once_first}

@@ -1,6 +1,5 @@
 -- Room for an image, and the zeros behind it.
-use Rattle.std.proofs.Common.{◌≡◌, ◌<◌, ◌≤◌, ◌-◌, ◌++◌, ◌⊎◌, ℕ, List, true, false, Option, Some}
-use Rattle.std.proofs.Common.{None, arith, inl, length, refl, take}
+use Rattle.std.proofs.Common.{◌≡◌, ◌<◌, ◌≤◌, ◌-◌, ◌++◌, ◌⊎◌, ℕ, List, true, false, Option, Some, None, arith, inl, length, refl, take}
 use Rattle.std.specs.Prelude.{is_some, replicate, unwrap_or}
 use Rattle.std.proofs.lemmas.List.{take_all}
 use Rattle.chan_run.specs.Image.{filled}

@@ -1,15 +1,12 @@
 -- The answer on a word of the output.
 use Rattle.std.specs.Io.KnownBytes.{Appends}
-use Rattle.std.proofs.Common.{OnOk, ◌≡◌, ◌↔◌, Bool, Err, IsErr, List, Ok, Option, Result, false}
-use Rattle.std.proofs.Common.{inl, inr, refl, true, ℕ}
+use Rattle.std.proofs.Common.{OnOk, ◌≡◌, ◌↔◌, Bool, Err, IsErr, List, Ok, Option, Result, false, inl, inr, refl, true, ℕ}
 use Rattle.ccw_core.specs.declared.watched.DeviceFault.{DeviceFault}
 use Rattle.chan_run.specs.Meanings.{AreTermsListed, AreWordsListed, IsWordAnswer}
 use Rattle.chan_run.specs.Outcome.{outcome_of_write}
-use Rattle.chan_run.specs.OutputWords.{AreDefinitionsListed, IsFirstDefinition, output_words}
-use Rattle.chan_run.specs.OutputWords.{definition_line}
+use Rattle.chan_run.specs.OutputWords.{AreDefinitionsListed, IsFirstDefinition, output_words, definition_line}
 use Rattle.chan_run.specs.declared.outcome.Outcome.{Outcome}
-use Rattle.chan_run.specs.declared.outcome.Outcome.TheVariants.{Denied, Done, Failed, NoJob}
-use Rattle.chan_run.specs.declared.outcome.Outcome.TheVariants.{Refused, Unknown}
+use Rattle.chan_run.specs.declared.outcome.Outcome.TheVariants.{Denied, Done, Failed, NoJob, Refused, Unknown}
 use Rattle.chan_run.specs.declared.terms.TheConstants as texts
 use Rattle.chan_run.specs.Spelled.{IsSpelled}
 use Rattle.chan_run.specs.Texts.{WriterGot}

@@ -1,6 +1,5 @@
 -- Words as they are shown, byte by byte.
-use Rattle.std.proofs.Common.{◌≡◌, ◌∙◌, ◌++◌, ◌∷◌, Bool, List, [], Ok, ap, codes, drop}
-use Rattle.std.proofs.Common.{if◌then◌else◌, false, refl, subst, sym, take, true, ℕ}
+use Rattle.std.proofs.Common.{◌≡◌, ◌∙◌, ◌++◌, ◌∷◌, Bool, List, [], Ok, ap, codes, drop, if◌then◌else◌, false, refl, subst, sym, take, true, ℕ}
 use Rattle.std.specs.List.{AllByRecursion}
 use Rattle.hex.proofs.HexLemmas.{decode_of-encode_upper}
 use Rattle.hex.specs.Hex.{decode_of, encode_with}

@@ -1,7 +1,5 @@
 -- What a writer got, part by part, where the parts are known by equations.
-use Rattle.std.proofs.Common.{◌≤◌, ◌<◌, ◌+◌, ◌-◌, ◌∷◌, List, [], ℕ, Bor, Option, arith, drop}
-use Rattle.std.proofs.Common.{◌≡◌, ◌∙◌, ◌++◌, Bool, false, length, slice_index_or, suc, sym, take}
-use Rattle.std.proofs.Common.{true, zero}
+use Rattle.std.proofs.Common.{◌≤◌, ◌<◌, ◌+◌, ◌-◌, ◌∷◌, List, [], ℕ, Bor, Option, arith, drop, ◌≡◌, ◌∙◌, ◌++◌, Bool, false, length, slice_index_or, suc, sym, take, true, zero}
 use Rattle.std.proofs.KnownBytes.{Appends-trans}
 use Rattle.std.specs.Io.KnownBytes.{Appends}
 use Rattle.std.proofs.lemmas.List.{length-append, take_all}

@@ -1,22 +1,10 @@
 -- Reading a path backwards, from a place to the one that it was found from.
-use Rattle.std.proofs.Common.{◌≡◌, Bool, true, eqb, ◌&&◌, ℕ, ◌<◌, List, [], ◌∷◌, ◌++◌, append_assoc}
-use Rattle.std.proofs.Common.{length, reverse, slice_index, Option, Some, refl, sym, ap, ◌∙◌, subst}
-use Rattle.std.proofs.Common.{arith, rules}
+use Rattle.chan_why.proofs.Names.{[], all_found, and_from, ap, arith, best_first, best_next, Bool, Entry, eqb, HasFound, IsBestPath, IsPathAt, IsSurvey, Job, length, List, number_of_places, Option, Place, places_of_looks, refl, reverse, rules, Seen, slice_get_within, slice_index, Some, subst, Surveyed, sym, true, ℕ, ◌&&◌, ◌++◌, ◌<◌, ◌∙◌, ◌∷◌, ◌≡◌}
+use Rattle.std.proofs.Common.{append_assoc}
 use Rattle.std.specs.List.{slice_get}
-use Rattle.std.proofs.lemmas.Bool.{and_from, eq-eqb}
-use Rattle.chan_walk.specs.declared.job.Job.{Job}
-use Rattle.chan_walk.specs.declared.place.Entry.{Entry}
-use Rattle.chan_walk.specs.declared.place.Place.{Place}
+use Rattle.std.proofs.lemmas.Bool.{eq-eqb}
 use Rattle.chan_walk.specs.contracts.place.Entry.{the_type}
-use Rattle.chan_walk.specs.JobSurvey.{IsSurvey, Surveyed}
-use Rattle.chan_walk.specs.Look.{Seen, places_of_looks}
 use Rattle.chan_walk.specs.Place.{first_place}
-use Rattle.chan_walk.specs.Walk.{HasFound, IsBestPath}
-use Rattle.chan_why.specs.Path.{IsPathAt}
-use Rattle.chan_walk.proofs.Algorithms.Looking.{number_of_places}
-use Rattle.chan_walk.proofs.Algorithms.Tracing.{best_first, best_next}
-use Rattle.chan_walk.proofs.Algorithms.Walking.{all_found}
-use Rattle.std.proofs.lemmas.Option.{slice_get_within}
 use denote.Enum.Bare.{sameb}
 use mathlib.Core.Bool.{beq}
 

@@ -1,20 +1,12 @@
 -- What it says of a place that was looked at that it offends by a reason.
-use Rattle.std.proofs.Common.{◌≡◌, ℕ, Option, Some, refl, sym, ◌∙◌, inl, inr, arith}
-use Rattle.chan_walk.specs.declared.evidence.Evidence.{Evidence}
+use Rattle.chan_why.proofs.Names.{AreClear, arith, ChangesGuarded, data_at, Evidence, inl, inr, IsArgumentByte, IsArgumentIn, IsCause, IsCcwByte, IsCcwIn, IsClear, IsReachable, Job, Offends, Option, Place, Reason, refl, Some, sym, ℕ, ◌∙◌, ◌≡◌}
 use Rattle.chan_walk.specs.declared.evidence.Evidence.TheVariants as because
-use Rattle.chan_walk.specs.declared.job.Job.{Job}
-use Rattle.chan_walk.specs.declared.place.Place.{Place}
-use Rattle.chan_walk.specs.declared.reason.Reason.{Reason}
 use Rattle.chan_walk.specs.declared.reason.Reason.TheVariants.{ChangesArgument, ChangesCcw}
 use Rattle.chan_walk.specs.Evidence.{IsOwnCause}
-use Rattle.chan_walk.specs.Fault.{HasFault, IsClear}
-use Rattle.chan_walk.specs.Guarded.{IsArgumentByte, IsCcwByte}
-use Rattle.chan_walk.specs.Place.{data_at}
-use Rattle.chan_walk.specs.Reachable.{IsReachable}
-use Rattle.chan_walk.specs.Verdict.{AreClear, ChangesGuarded, Offends, StoresOver}
+use Rattle.chan_walk.specs.Fault.{HasFault}
+use Rattle.chan_walk.specs.Verdict.{StoresOver}
 use Rattle.chan_walk.proofs.Algorithms.Looking.{never_both}
 use Rattle.chan_walk.proofs.Theory.Faults.{fault_unique}
-use Rattle.chan_why.specs.Cause.{IsArgumentIn, IsCause, IsCcwIn}
 
 -- a place with an own fault offends by it alone
 pub offends_by_own : (j : Job) (p : Place) (r t : Reason) → IsReachable j p → HasFault j p (Some r) → Offends j p t → r ≡ t

@@ -1,36 +1,17 @@
 -- What a store changes, among the places that were looked at.
-use Rattle.std.proofs.Common.{◌≡◌, ℕ, ◌+◌, ◌-◌, ◌%◌, ◌<◌, ◌≤◌, true, false, List, [], length}
-use Rattle.std.proofs.Common.{get_or, Option, Some, None, IsSome, refl, sym, subst, ◌⊎◌, inl, inr}
-use Rattle.std.proofs.Common.{◌↔◌, arith, rules}
-use Rattle.std.proofs.lemmas.Bool.{cases_Bool, cases_lt, eqb-true}
-use Rattle.ccw_core.specs.declared.areas.Area.{Area}
-use Rattle.ccw_core.specs.Areas.{lies_in, end_of}
-use Rattle.chan_walk.specs.declared.evidence.Evidence.{Evidence}
+use Rattle.chan_why.proofs.Names.{[], Area, arith, begins_seek, cases_lt, ccw_of, ccw_seen, clear_stands, end_of, Evidence, false, Fields, get_or, GuardAreas, Guards, HasFound, inl, inr, IsArgumentByte, IsArgumentByteOf, IsArgumentIn, IsByteIn, IsCause, IsCcwByte, IsCcwIn, IsClear, IsFirstWhere, IsLeastOf, IsLeastOrNone, IsLook, IsPathAt, IsSecondPathEnd, IsSome, Job, length, lies_in, List, None, Option, Place, place_at, places_of_looks, refl, rules, Seen, Some, storage_of, subst, sym, true, whole_of, ℕ, ◌%◌, ◌+◌, ◌-◌, ◌<◌, ◌↔◌, ◌≡◌, ◌≤◌, ◌⊎◌}
+use Rattle.std.proofs.lemmas.Bool.{cases_Bool, eqb-true}
 use Rattle.chan_walk.specs.declared.evidence.Evidence.TheVariants as because
-use Rattle.chan_walk.specs.declared.job.Job.{Job}
-use Rattle.chan_walk.specs.declared.place.Place.{Place}
-use Rattle.ccw_core.specs.Ccw.{Fields}
 use Rattle.ccw_core.specs.Storage.{Stands, is_aligned}
-use Rattle.chan_why.specs.SecondPath.{IsSecondPathEnd}
 use Rattle.chan_walk.specs.declared.argument.GivenBytes.{GivenBytes}
 use Rattle.chan_walk.specs.Evidence.{IsArgumentAt}
-use Rattle.chan_why.specs.Cause.{IsArgumentIn, IsCause, IsCcwIn, IsSecondPath, IsTakenAt}
-use Rattle.chan_areas.specs.Merged.{IsLeastOf, IsLeastOrNone, IsByteIn}
+use Rattle.chan_why.specs.Cause.{IsSecondPath, IsTakenAt}
 use Rattle.chan_walk.specs.declared.argument.Operand.{Operand}
 use Rattle.chan_walk.specs.declared.argument.Operand.TheVariants as operand
-use Rattle.chan_walk.specs.Fault.{IsClear, begins_seek, begins_set_mask}
-use Rattle.chan_walk.specs.Guard.{GuardAreas, Guards, IsArgumentByteOf}
-use Rattle.chan_walk.specs.Guarded.{IsArgumentByte, IsCcwByte}
-use Rattle.chan_walk.specs.Job.{storage_of}
-use Rattle.chan_walk.specs.Look.{IsLook, Seen, places_of_looks}
-use Rattle.chan_walk.specs.Operand.{IsOperand, whole_of}
-use Rattle.chan_walk.specs.Place.{ccw_of}
-use Rattle.chan_walk.specs.Walk.{HasFound}
-use Rattle.chan_why.specs.Path.{IsFirstWhere, IsPathAt}
+use Rattle.chan_walk.specs.Fault.{begins_set_mask}
+use Rattle.chan_walk.specs.Operand.{IsOperand}
 use Rattle.chan_why.proofs.Backward.{within_looks}
 use Rattle.chan_why.proofs.Finding.{best_where, path_where, reached_at}
-use Rattle.chan_walk.proofs.Theory.Faults.{clear_stands}
-use Rattle.chan_walk.proofs.Algorithms.Looking.{ccw_seen, place_at}
 use Rattle.chan_walk.proofs.Theory.Found.{seek_or_mask}
 
 -- ---- the least address of a CCW

@@ -1,14 +1,7 @@
 -- Whether a data range is lent, from the first byte of it that isn't.
-use Rattle.std.proofs.Common.{◌≡◌, ◌∙◌, ◌<◌, ◌↔◌, Bool, List, None, Option, Some, false, length}
-use Rattle.std.proofs.Common.{refl, subst, sym, true, ℕ}
-use Rattle.ccw_core.specs.declared.areas.Area.{Area}
-use Rattle.ccw_core.specs.Areas.{lies_in}
-use Rattle.ccw_core.specs.Ccw.{Fields}
+use Rattle.chan_why.proofs.Names.{Area, AreExactly, Bool, data_of, false, Fields, IsLeastOrNone, Job, length, lies_in, List, None, Option, refl, Some, storage_of, subst, sym, true, ℕ, ◌<◌, ◌↔◌, ◌∙◌, ◌≡◌}
 use Rattle.ccw_core.specs.Storage.{ccw_at}
-use Rattle.chan_areas.specs.Merged.{AreExactly, IsByteOf, IsLeastOrNone}
-use Rattle.chan_walk.specs.declared.job.Job.{Job}
-use Rattle.chan_walk.specs.Job.{storage_of}
-use Rattle.chan_walk.specs.Place.{data_of}
+use Rattle.chan_areas.specs.Merged.{IsByteOf}
 use Rattle.chan_why.specs.Exchange.{IsLentAt, LiesWholly}
 
 -- what isn't false is true

@@ -1,30 +1,12 @@
 -- The path to a place that offends by the verdict's reason.
-use Rattle.std.proofs.Common.{◌≡◌, ℕ, zero, suc, ◌<◌, List, [], ◌∷◌, ◌++◌, take, length, get_or}
-use Rattle.std.proofs.Common.{reverse, slice_get, Option, Some, None, IsSome, true, false, refl}
-use Rattle.std.proofs.Common.{sym, ◌∙◌, subst, inl, arith}
-use Rattle.std.specs.List.{AllZip}
-use Rattle.chan_walk.specs.declared.evidence.Evidence.{Evidence}
-use Rattle.chan_walk.specs.declared.job.Job.{Job}
-use Rattle.chan_walk.specs.declared.offence.Offence.{Offence}
-use Rattle.chan_walk.specs.declared.place.Place.{Place}
+use Rattle.chan_why.proofs.Names.{[], AllZip, arith, Evidence, false, get_or, Has, has_at, HasFound, HasLikeOffence, inl, IsCauseOf, IsFirstWhere, IsLook, IsPathAt, IsReachable, IsSome, IsStoredBefore, IsSurvey, Job, length, List, look_of, None, Offence, offence, Option, Place, place_at, places_of_looks, Reason, refl, reverse, Seen, slice_get, Some, subst, suc, Surveyed, sym, take, true, zero, ℕ, ◌++◌, ◌<◌, ◌∙◌, ◌∷◌, ◌≡◌}
 use Rattle.chan_walk.specs.Alarm.{EachPathShows, IsProper}
-use Rattle.chan_walk.specs.Argument.{Has}
-use Rattle.chan_why.specs.Witness.{IsCaseOf, IsCauseOf, IsEvidenceOf, HasLikeOffence, IsPathOf}
-use Rattle.chan_why.specs.Witness.{IsStoredBefore, IsStoredOver, IsWitness, OffendsAt}
-use Rattle.chan_walk.specs.declared.reason.Reason.{Reason}
+use Rattle.chan_why.specs.Witness.{IsCaseOf, IsEvidenceOf, IsPathOf, IsStoredOver, IsWitness, OffendsAt}
 use Rattle.chan_walk.specs.declared.verdict.Verdict.TheVariants.{No}
 use Rattle.chan_walk.specs.Reason.{is_no_command}
-use Rattle.chan_walk.specs.Look.{IsLook, Seen, places_of_looks}
 use Rattle.chan_why.specs.Cause.{IsEvidence}
 use Rattle.chan_walk.specs.Offence.{AreOffences, Offending, first_verdict}
-use Rattle.chan_walk.specs.JobSurvey.{IsSurvey, Surveyed}
-use Rattle.chan_walk.specs.Reachable.{IsReachable}
-use Rattle.chan_walk.specs.Walk.{HasFound}
-use Rattle.chan_why.specs.Path.{IsFirstWhere, IsPathAt}
-use Rattle.chan_walk.proofs.Algorithms.Listing.{offence}
-use Rattle.chan_walk.proofs.Algorithms.Looking.{look_of, place_at}
 use Rattle.chan_why.proofs.Changing.{first_within}
-use Rattle.chan_walk.proofs.Theory.Lists.{has_at}
 use Rattle.chan_why.proofs.Finding.{best_where, path_where, reached_at}
 
 -- ---- an offence, and the first place that is like it

@@ -1,19 +1,6 @@
 -- The first of the places looked at that answers to a question, and the path to it.
-use Rattle.std.proofs.Common.{◌≡◌, ℕ, zero, suc, ◌+◌, ◌<◌, ◌≤◌, List, ◌∷◌, length, get_or}
-use Rattle.std.proofs.Common.{slice_get, slice_index, Option, Some, None, sym, ◌∙◌, subst, ◌⊎◌, inl}
-use Rattle.std.proofs.Common.{inr, arith, rules}
-use Rattle.std.proofs.lemmas.Bool.{cases_lt}
-use Rattle.chan_walk.specs.declared.job.Job.{Job}
-use Rattle.chan_walk.specs.declared.place.Place.{Place}
-use Rattle.chan_walk.specs.Look.{Seen, places_of_looks}
-use Rattle.chan_why.specs.Path.{ArePathWhere, IsPathWhere, IsFirstWhere, IsPathAt}
-use Rattle.chan_walk.specs.Reachable.{IsReachable}
-use Rattle.chan_walk.specs.Walk.{HasFound, IsBestPath}
-use Rattle.chan_walk.proofs.Algorithms.Looking.{number_of_places, place_at}
-use Rattle.chan_walk.proofs.Algorithms.Tracing.{best_first, best_next}
-use Rattle.chan_walk.proofs.Algorithms.Walking.{all_found}
-use Rattle.std.proofs.lemmas.Option.{slice_get_within}
-use Rattle.chan_walk.proofs.Theory.Lists.{at_has}
+use Rattle.chan_why.proofs.Names.{all_found, arith, at_has, best_first, best_next, cases_lt, get_or, HasFound, inl, inr, IsBestPath, IsFirstWhere, IsPathAt, IsReachable, Job, length, List, None, number_of_places, Option, Place, place_at, places_of_looks, rules, Seen, slice_get, slice_get_within, slice_index, Some, subst, suc, sym, zero, ℕ, ◌+◌, ◌<◌, ◌∙◌, ◌∷◌, ◌≡◌, ◌≤◌, ◌⊎◌}
+use Rattle.chan_why.specs.Path.{ArePathWhere, IsPathWhere}
 
 -- ---- the loop that looks for it
 

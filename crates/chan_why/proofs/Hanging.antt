@@ -1,33 +1,22 @@
 -- Where a program ends by itself and where it may hang, over its runs.
-use Rattle.std.proofs.Common.{◌≡◌, ℕ, ◌+◌, ◌<◌, Bool, true, false, if◌then◌else◌, List, [], ◌∷◌}
-use Rattle.std.proofs.Common.{◌++◌, length, reverse, Option, Some, None, is_none, refl, sym, ap}
-use Rattle.std.proofs.Common.{◌∙◌, subst, ◌⊎◌, inl, inr, arith, rules, ◌↔◌}
-use Rattle.std.proofs.lemmas.Bool.{both_ways}
-use Rattle.std.proofs.lemmas.List.{append_assoc, reverse-append}
-use Rattle.ccw_core.specs.Ccw.{Fields, ccw, chains_command, chains_data, is_transfer}
-use Rattle.ckd_core.specs.declared.command.Kind.{Kind}
-use Rattle.ckd_core.specs.declared.command.Kind.TheVariants.{Outward}
-use Rattle.chan_walk.specs.declared.job.Job.{Job}
-use Rattle.chan_walk.specs.declared.place.Entry.{Entry}
+use Rattle.chan_why.proofs.Names.{[], ap, append_assoc, arith, begins_seek, Bool, both_ways, ccw_of, chains_data, clear_stands, EndsAfter, EndsTheProgram, Entry, false, Fields, inl, inr, is_fresh, is_known, is_transfer, IsClear, IsReachable, Job, Kind, kind_of, length, List, next_of, None, Option, Outward, Place, refl, reverse, rules, Some, storage_of, subst, sym, true, ℕ, ◌++◌, ◌+◌, ◌<◌, ◌↔◌, ◌∙◌, ◌∷◌, ◌≡◌, ◌⊎◌}
+use Rattle.std.proofs.Common.{if◌then◌else◌, is_none}
+use Rattle.std.proofs.lemmas.List.{reverse-append}
+use Rattle.ccw_core.specs.Ccw.{ccw, chains_command}
 use Rattle.chan_walk.specs.declared.place.Entry.TheVariants.{Fresh}
-use Rattle.chan_walk.specs.declared.place.Place.{Place}
 use Rattle.chan_walk.specs.declared.verdict.Verdict.TheVariants.{Yes}
 use Rattle.chan_walk.specs.Alarm.{AreBytes}
 use Rattle.chan_walk.specs.Argument.{HasArgument}
 use Rattle.chan_walk.specs.ProgramCheck.{program_check, program_check_of}
-use Rattle.chan_walk.specs.Fault.{begins_seek, is_known, kind_of, IsClear}
-use Rattle.chan_walk.specs.Job.{storage_of}
 use Rattle.chan_walk.specs.Machine as machine
-use Rattle.chan_walk.specs.Machine.{At, Checked, Continues, Ended, Event, Gathered, Stage, Step}
-use Rattle.chan_walk.specs.Machine.{StepFrom, under_way}
+use Rattle.chan_walk.specs.Machine.{At, Checked, Continues, Ended, Event, Gathered, Stage, Step, StepFrom, under_way}
 use Rattle.chan_walk.specs.OpenJob.{AreOfOneProgram}
-use Rattle.chan_walk.specs.Place.{ccw_of, is_fresh, straight_to, transferred_to}
-use Rattle.chan_walk.specs.Reachable.{IsPath, IsReachable}
+use Rattle.chan_walk.specs.Place.{straight_to, transferred_to}
+use Rattle.chan_walk.specs.Reachable.{IsPath}
 use Rattle.chan_walk.specs.Runs.{Moment, Steps, IsSameIn}
-use Rattle.chan_walk.specs.Successor.{Successor, chained, next_of, skip_of}
+use Rattle.chan_walk.specs.Successor.{Successor, chained, skip_of}
 use Rattle.chan_walk.specs.Verdict.{IsVerdict}
-use Rattle.chan_why.specs.Hang.{CannotEndAt, EndsAfter, EndsTheProgram, HangLasts, SomeRunEnds}
-use Rattle.chan_why.specs.Hang.{HangGoesOn, HangsAlike, HangStays, StepsOn, StepsOnUnlessItEnds}
+use Rattle.chan_why.specs.Hang.{CannotEndAt, HangLasts, SomeRunEnds, HangGoesOn, HangsAlike, HangStays, StepsOn, StepsOnUnlessItEnds}
 use Rattle.ccw_core.specs.Held.{bytes_held}
 use Rattle.chan_walk.specs.VerdictBytes.{IsVerdictByte, with_storage}
 use Rattle.chan_walk.proofs.Algorithms.VerdictBytes.{carries_at}
@@ -36,14 +25,12 @@ use Rattle.chan_walk.proofs.Theory.Transport.{CarriesOver, same_reached}
 use Rattle.chan_walk.proofs.Machine.Gathering.{advance, begin}
 use Rattle.chan_walk.proofs.Machine.Invariant.{Invariant, Same, Under}
 use Rattle.chan_walk.proofs.Machine.Paths.{Taking, each_path_is_run, few_at}
-use Rattle.chan_walk.proofs.Machine.Quiet.{IsFew, Known, Left, bytes_at, carry_out, full_count}
-use Rattle.chan_walk.proofs.Machine.Quiet.{kind_at, length-with_taken, seek_at}
+use Rattle.chan_walk.proofs.Machine.Quiet.{IsFew, Known, Left, bytes_at, carry_out, full_count, kind_at, length-with_taken, seek_at}
 use Rattle.chan_walk.proofs.Machine.Waiting.{WaitsSpared}
 use Rattle.chan_walk.proofs.Machine.Yes.{all_kept, each_ok, fresh_out}
 use Rattle.chan_walk.proofs.Theory.Granting.{same_under_yes, turned}
-use Rattle.chan_walk.proofs.Theory.Faults.{clear_check, clear_good, clear_stands, yes_clear}
-use Rattle.chan_walk.proofs.Theory.Follows.{Follows, by_command, by_data, by_skip, by_transfer}
-use Rattle.chan_walk.proofs.Theory.Follows.{follows, succeeds}
+use Rattle.chan_walk.proofs.Theory.Faults.{clear_check, clear_good, yes_clear}
+use Rattle.chan_walk.proofs.Theory.Follows.{Follows, by_command, by_data, by_skip, by_transfer, follows, succeeds}
 use Rattle.chan_walk.proofs.Theory.SameCcws.{same_ccw}
 
 -- ---- where a step leads
@@ -114,15 +101,7 @@ module _ (j : Job) (y : ℕ) (p : Place) (g : Gathered) (bytes : AreBytes (stora
       → Continues p (ccw_of j p) (kind_at j p) (bytes_at j p) (seek_at j y p g few).after [] (At to h) → Onward (storage_of j) y j.mask p g
   onward {to = to} {h = h} known t goes =
       let r = carry_out j bytes y p g few e t known tt goes in
-      record {
-        es = r.es;
-        after = storage_of j;
-        arm = y;
-        mask = j.mask;
-        to = to;
-        gathered = h;
-        step = r.step;
-      }
+      record { es = r.es; after = storage_of j; arm = y; mask = j.mask; to = to; gathered = h; step = r.step }
 
   by_chaining : Known j p → Fills p (ccw_of j p) (under_way p (ccw_of j p) g) → is_transfer (ccw_of j p) ≡ false
       → chains_data (ccw_of j p) ≡ false → chains_command (ccw_of j p) ≡ true → Onward (storage_of j) y j.mask p g

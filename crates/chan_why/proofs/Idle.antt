@@ -1,11 +1,8 @@
 -- Commands that move nothing are no transfers.
-use Rattle.std.proofs.Common.{◌≡◌, ℕ, Bool, true, false, not, ◌||◌, ◌==◌, ◌%◌, Option, refl, rules}
+use Rattle.chan_why.proofs.Names.{Bool, false, Fields, Idle, is_idle, is_transfer, kind_of_command, lookup, moves_nothing, not, Option, refl, rules, true, ℕ, ◌%◌, ◌≡◌}
+use Rattle.std.proofs.Common.{◌||◌, ◌==◌}
 use Rattle.std.specs.List.{list_all}
-use Rattle.ccw_core.specs.Ccw.{Fields, is_transfer}
-use Rattle.ckd_core.specs.declared.command.Kind.TheVariants.{Idle}
-use Rattle.ckd_core.specs.Command.{Entry as Command, table, lookup}
-use Rattle.chan_walk.specs.Fault.{kind_of_command}
-use Rattle.chan_why.specs.Notes.{is_idle, moves_nothing}
+use Rattle.ckd_core.specs.Command.{Entry as Command, table}
 use Rattle.chan_walk.proofs.Theory.Commands.{PassesTest, found_passes, found_code}
 
 abbrev idle_are_no_transfers : Command → Bool

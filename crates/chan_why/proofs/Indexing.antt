@@ -1,33 +1,13 @@
 -- Indexes of what a walk has looked at.
-use Rattle.std.proofs.Common.{◌≡◌, ℕ, zero, suc, ◌+◌, ◌*◌, ◌<◌, ◌≤◌, List, [], ◌∷◌, length, get_or}
-use Rattle.std.proofs.Common.{slice_get, Option, Some, None, IsSome, refl, sym, ap, ◌∙◌, subst, ◌⊎◌}
-use Rattle.std.proofs.Common.{inl, inr, ◌↔◌, arith, rules}
-use Rattle.std.specs.Ordering.{nat_cmp}
+use Rattle.chan_why.proofs.Names.{[], ap, AreDistinct, AreLooks, argument_seen, arith, at_has, cases_eq, cases_lt, get_or, Has, has_at, HasLikeOffence, inl, inr, IsArgumentByteOf, IsAtPlace, IsFirstWhere, IsIndex, IsLeastOf, IsLeastOrNone, IsOfKind, IsSome, Job, length, List, nat_cmp, None, number_of_places, Offence, offence, Option, Place, place_number, places_of_looks, Reason, refl, rules, same_number, Seen, slice_get, slice_get-get_or, slice_get_within, Some, subst, suc, sym, TakesByte, TakesSoFar, zero, ℕ, ◌+◌, ◌<◌, ◌↔◌, ◌∙◌, ◌∷◌, ◌≡◌, ◌≤◌, ◌⊎◌}
+use Rattle.std.proofs.Common.{◌*◌}
 use Rattle.std.specs.BTreeMap.{BTreeMap}
 use Rattle.std.specs.BTreeMap as tree
-use Rattle.std.proofs.lemmas.Bool.{cases_eq, cases_lt}
-use Rattle.chan_walk.specs.declared.offence.Offence.{Offence}
-use Rattle.chan_walk.specs.declared.place.Place.{Place}
-use Rattle.chan_walk.specs.Argument.{Has}
-use Rattle.chan_areas.specs.Merged.{IsLeastOf, IsLeastOrNone}
-use Rattle.chan_walk.specs.Places.{AreDistinct, place_number}
-use Rattle.chan_why.specs.Finder.{IsAtPlace, IsIndex, IsLesserOf, IsOfKind, KeepsLeast, TakesByte}
-use Rattle.chan_why.specs.Finder.{TakesSoFar, kind_number}
-use Rattle.chan_walk.specs.Look.{AreLooks, Seen, places_of_looks, argument_seen}
-use Rattle.chan_walk.specs.declared.job.Job.{Job}
-use Rattle.chan_walk.specs.declared.reason.Reason.{Reason}
-use Rattle.chan_why.specs.Witness.{HasLikeOffence}
-use Rattle.chan_walk.specs.Guard.{IsArgumentByteOf}
+use Rattle.chan_why.specs.Finder.{IsLesserOf, KeepsLeast, kind_number}
 use Rattle.chan_walk.specs.Reason.{number_of}
-use Rattle.chan_why.specs.Path.{IsFirstWhere}
-use Rattle.chan_walk.proofs.Theory.Lists.{has_at, at_has}
-use Rattle.chan_walk.proofs.Algorithms.Listing.{offence}
-use Rattle.chan_walk.proofs.Algorithms.Looking.{number_of_places}
-use Rattle.chan_walk.proofs.Algorithms.Marks.{same_number}
 use Rattle.chan_walk.proofs.Algorithms.Tracing.{same_index}
 use Rattle.chan_walk.proofs.Algorithms.Walking.{place_there}
 use Rattle.chan_areas.proofs.Gaps.{least_same}
-use Rattle.std.proofs.lemmas.Option.{slice_get-get_or, slice_get_within}
 
 -- ---- one more
 

@@ -1,3 +1,4 @@
+pub mod Names
 pub mod Causes
 pub mod Backward
 pub mod Finding

@@ -1,40 +1,21 @@
 -- Notes: areas lent in vain, and the addresses of CCWs that pass a test.
-use Rattle.std.proofs.Common.{◌≡◌, ℕ, zero, suc, ◌+◌, ◌<◌, ◌≤◌, Bool, true, not, ◌&&◌, max, nat_lt}
-use Rattle.std.proofs.Common.{IsTrue, List, [], ◌∷◌, ◌++◌, sym, ap, ◌∙◌, subst, ◌⊎◌, inl, inr, ◌↔◌}
-use Rattle.std.proofs.Common.{arith, eqb, false, refl, rules, is_some, None, Option, Some}
+use Rattle.chan_why.proofs.Names.{[], and_from, ap, Area, AreReached, arith, Bool, cases_lt, ccw_of, ccw_seen, chains_data, end_of, ends_there, Entry, eqb, false, Fields, filter, Has, has_byte_of, has_machine_byte, has_push, Idle, inl, inr, is_fresh, is_idle, is_known, is_transfer, IsLook, Job, Kind, kind_of, kind_of_command, lies_in, List, lookup, moves_nothing, next_of, None, not, Option, Outward, Place, refl, rules, Seen, Some, subst, suc, sym, true, zero, ℕ, ◌&&◌, ◌++◌, ◌+◌, ◌<◌, ◌↔◌, ◌∙◌, ◌∷◌, ◌≡◌, ◌≤◌, ◌⊎◌}
+use Rattle.std.proofs.Common.{max, nat_lt, IsTrue, is_some}
 use Rattle.std.specs.Cmp.Derive.{one_truth}
-use Rattle.std.specs.List.{dedup, filter}
+use Rattle.std.specs.List.{dedup}
 use Rattle.std.specs.List.Sorted.{IsPermutation, IsStrictlyIncreasing}
-use Rattle.std.proofs.lemmas.Bool.{and_from, and_parts, or_cases, or_left, or_right, cases_lt}
-use Rattle.std.proofs.lemmas.Bool.{lt-ltb, ltb-true}
+use Rattle.std.proofs.lemmas.Bool.{and_parts, or_cases, or_left, or_right, lt-ltb, ltb-true}
 use Rattle.std.proofs.lemmas.List.Kept.{Contains-dedup_nat, Contains-from_dedup}
 use Rattle.std.proofs.lemmas.List.Sorted.{Contains-permutation, IsPermutation-sym}
-use Rattle.ccw_core.specs.declared.areas.Area.{Area}
-use Rattle.ccw_core.specs.Areas.{end_of, lies_in}
-use Rattle.ccw_core.specs.Ccw.{Fields, chains_data, is_transfer}
-use Rattle.ckd_core.specs.declared.command.Kind.{Kind}
-use Rattle.ckd_core.specs.declared.command.Kind.TheVariants.{Idle, Inward, Outward, Search}
-use Rattle.ckd_core.specs.Command.{Entry as Command, lookup}
-use Rattle.chan_walk.specs.declared.job.Job.{Job}
-use Rattle.chan_walk.specs.declared.place.Entry.{Entry}
-use Rattle.chan_walk.specs.declared.place.Place.{Place}
-use Rattle.chan_walk.specs.Argument.{Has}
-use Rattle.chan_walk.specs.Fault.{is_known, kind_of, kind_of_command}
-use Rattle.chan_walk.specs.Places.{AreReached}
-use Rattle.chan_walk.specs.Look.{IsLook, Seen}
-use Rattle.chan_why.specs.Notes.{AddsAddress, AreAddressesOf, AreUnused, IsMachineByte}
-use Rattle.chan_why.specs.Notes.{HasNoSuccessor, IsSeenWith, HasUsedByte, NothingFollows}
-use Rattle.chan_why.specs.Notes.{ends_there, has_byte_of, is_idle, moves_nothing}
-use Rattle.chan_why.specs.Notes.{has_machine_byte, meets_any}
+use Rattle.ckd_core.specs.declared.command.Kind.TheVariants.{Inward, Search}
+use Rattle.ckd_core.specs.Command.{Entry as Command}
+use Rattle.chan_why.specs.Notes.{AddsAddress, AreAddressesOf, AreUnused, IsMachineByte, HasNoSuccessor, IsSeenWith, HasUsedByte, NothingFollows, meets_any}
 use Rattle.chan_walk.specs.Moved.{PassesTest}
-use Rattle.chan_walk.specs.Place.{is_fresh, ccw_of}
-use Rattle.chan_walk.specs.Successor.{next_of}
 use Rattle.chan_areas.specs.Merged.{Meets}
 use Rattle.chan_walk.proofs.Algorithms.Moved.{seen_at}
 use Rattle.chan_why.proofs.Idle.{idle_is_no_transfer}
 use Rattle.chan_walk.proofs.Algorithms.Guarding.{one_more}
-use Rattle.chan_walk.proofs.Theory.Lists.{contains_has, has_contains, has_push}
-use Rattle.chan_walk.proofs.Algorithms.Looking.{ccw_seen}
+use Rattle.chan_walk.proofs.Theory.Lists.{contains_has, has_contains}
 
 -- ---- areas that are used, by a test
 

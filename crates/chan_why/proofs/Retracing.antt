@@ -1,33 +1,17 @@
 -- A program is retraced, from the places that end it back to those before them.
-use Rattle.std.proofs.Common.{◌≡◌, ℕ, zero, suc, ◌+◌, ◌-◌, ◌<◌, ◌≤◌, Bool, true, false, not, cond}
-use Rattle.std.proofs.Common.{List, [], ◌∷◌, ◌++◌, length, get_or, set, take, Option, Some, None}
-use Rattle.std.proofs.Common.{refl, sym, ap, ◌∙◌, subst, ◌⊎◌, inl, inr, ◌↔◌, arith, rules}
+use Rattle.chan_why.proofs.Names.{[], AddsPredecessor, ap, append_assoc, AreBuckets, AreLooks, ArePredecessors, AreReached, arith, at_has, Bool, both_ways, bucket_of, BucketEndsAt, cases_eq, cases_lt, EndsAfter, EndsTheProgram, false, FindsMore, get_or, Has, has_at, has_push, HasBefore, inl, inr, IsClear, IsFirstPlace, IsLeftUnmarked, IsOwnFault, Job, length, List, MarksFound, None, not, number_of_places, one_after, Option, own_clear, Place, place_number, places_of_looks, Predecessor, Predecessors, refl, rules, same_number, Seen, set, slice_get_within, Some, subst, suc, sym, take, true, zero, ℕ, ◌++◌, ◌+◌, ◌-◌, ◌<◌, ◌↔◌, ◌∙◌, ◌∷◌, ◌≡◌, ◌≤◌, ◌⊎◌}
+use Rattle.std.proofs.Common.{cond}
 use Rattle.std.specs.List.{count_by, slice_get}
-use Rattle.std.proofs.lemmas.Bool.{both_ways, cases_eq, cases_lt, false_from_ne_true}
-use Rattle.std.proofs.lemmas.List.{append-nil, append_assoc, get_or-set_other, get_or-set_same}
-use Rattle.std.proofs.lemmas.List.{get_or_append_left, get_or_past, length-append, length-set}
-use Rattle.std.proofs.lemmas.List.{length-take, take-append-le, take_at}
+use Rattle.std.proofs.lemmas.Bool.{false_from_ne_true}
+use Rattle.std.proofs.lemmas.List.{append-nil, get_or-set_other, get_or-set_same, get_or_append_left, get_or_past, length-append, length-set, length-take, take-append-le, take_at}
 use Rattle.std.proofs.lemmas.List.Sums.{sum_by-set}
-use Rattle.std.proofs.lemmas.Option.{get_or_from_slice_get, slice_get_within}
-use Rattle.chan_walk.specs.declared.job.Job.{Job}
-use Rattle.chan_walk.specs.declared.place.Place.{Place}
+use Rattle.std.proofs.lemmas.Option.{get_or_from_slice_get}
 use Rattle.chan_why.specs.declared.hang.Found.{Found}
-use Rattle.chan_why.specs.declared.hang.Predecessor.{Predecessor}
-use Rattle.chan_why.specs.declared.hang.Predecessors.{Predecessors}
-use Rattle.chan_walk.specs.Argument.{Has}
-use Rattle.chan_walk.specs.Evidence.{IsOwnFault}
-use Rattle.chan_walk.specs.Fault.{IsClear}
-use Rattle.chan_walk.specs.Look.{AreLooks, Seen, places_of_looks}
-use Rattle.chan_walk.specs.Places.{AreReached, place_number}
 use Rattle.chan_walk.specs.Walk.{Follows, IsAmong}
-use Rattle.chan_why.specs.Hang.{AddsPredecessor, ArePredecessors, AreBuckets, CanEnd, ComesAfter}
-use Rattle.chan_why.specs.Hang.{ComesBefore, EndsAfter, BucketEndsAt, EndsTheProgram, FindsMore}
-use Rattle.chan_why.specs.Hang.{HasBefore, IsEarlier, IsFirstPlace, IsLeftUnmarked, MarksFound}
-use Rattle.chan_why.specs.Hang.{MayHang, end_after, one_after, bucket_of}
-use Rattle.chan_walk.proofs.Algorithms.Looking.{clear_shows_none, number_of_places, own_clear}
-use Rattle.chan_walk.proofs.Algorithms.Marks.{same_number}
+use Rattle.chan_why.specs.Hang.{CanEnd, ComesAfter, ComesBefore, IsEarlier, MayHang, end_after}
+use Rattle.chan_walk.proofs.Algorithms.Looking.{clear_shows_none}
 use Rattle.chan_walk.proofs.Algorithms.Walking.{follows_exactly}
-use Rattle.chan_walk.proofs.Theory.Lists.{at_has, has_at, has_left, has_push}
+use Rattle.chan_walk.proofs.Theory.Lists.{has_left}
 use Rattle.chan_why.proofs.Indexing.{look_there}
 
 has_get : (xs : List ℕ) (i : ℕ) → i < length xs → Has xs (get_or xs i 0)

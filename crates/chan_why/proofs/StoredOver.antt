@@ -1,8 +1,5 @@
 -- The last place of a path that stores over what stands at its end, as the path is read backwards.
-use Rattle.std.proofs.Common.{◌≡◌, ℕ, ◌++◌, List, [], ◌∷◌, Option, Some, None, subst, ◌⊎◌, inl, inr}
-use Rattle.chan_walk.specs.declared.job.Job.{Job}
-use Rattle.chan_walk.specs.declared.place.Place.{Place}
-use Rattle.chan_why.specs.Witness.{IsLastStore, StoresAt}
+use Rattle.chan_why.proofs.Names.{[], inl, inr, IsLastStore, Job, List, None, Option, Place, Some, StoresAt, subst, ℕ, ◌++◌, ◌∷◌, ◌≡◌, ◌⊎◌}
 
 -- what one place more adds: nothing where one was found already
 abbrev pub IsLater : Job → ℕ → Place → Option Place → Option Place → Type 0

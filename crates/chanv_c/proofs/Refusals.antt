@@ -1,16 +1,11 @@
 -- What the number of an answer says of the job.
-use Rattle.std.proofs.Common.{◌≡◌, ◌≢◌, ◌<◌, ◌≤◌, ◌⊎◌, ◌∷◌, [], ℕ, zero, suc, List, Some, true, ap}
-use Rattle.std.proofs.Common.{length, refl, arith, inl, inr, subst}
+use Rattle.std.proofs.Common.{◌≡◌, ◌≢◌, ◌<◌, ◌≤◌, ◌⊎◌, ◌∷◌, [], ℕ, zero, suc, List, Some, true, ap, length, refl, arith, inl, inr, subst}
 use Rattle.chanv_c.specs.declared.job.CJob.{CJob}
 use Rattle.chanv_c.specs.declared.refusal.JobFault.{JobFault}
-use Rattle.chanv_c.specs.declared.refusal.JobFault.TheVariants.{StorageTooLarge, NotADevice}
-use Rattle.chanv_c.specs.declared.refusal.JobFault.TheVariants.{NotAMask, NoExtent, ExtentBackwards}
-use Rattle.chanv_c.specs.declared.refusal.JobFault.TheVariants.{ExtentPastDevice, NotALimit}
-use Rattle.chanv_c.specs.declared.refusal.JobFault.TheVariants.{ReservedNotZero}
+use Rattle.chanv_c.specs.declared.refusal.JobFault.TheVariants.{StorageTooLarge, NotADevice, NotAMask, NoExtent, ExtentBackwards, ExtentPastDevice, NotALimit, ReservedNotZero}
 use Rattle.chanv_c.specs.declared.refusal.Refusal.{Refusal}
 use Rattle.chanv_c.specs.declared.refusal.Refusal.TheVariants.{TooManyPlaces, Memory, Wrong}
-use Rattle.chanv_c.specs.Answers.{IsAnswerCode, IsRefusal, refusal_after, refusal_code}
-use Rattle.chanv_c.specs.Answers.{refusal_extent}
+use Rattle.chanv_c.specs.Answers.{IsAnswerCode, IsRefusal, refusal_after, refusal_code, refusal_extent}
 use Rattle.chanv_c.specs.Faults.{HasJobFault, HasNoFault, RightHasNoFault, fault_code}
 use Rattle.chanv_c.specs.Job.{extents_asked}
 use Rattle.ckd_core.specs.Extents.{AreExtents, IsExtent}

@@ -1,6 +1,5 @@
 -- Places written one after the other.
-use Rattle.std.proofs.Common.{◌≡◌, ◌<◌, ◌++◌, ℕ, zero, suc, Some, List, [], ◌∷◌, drop, length, map}
-use Rattle.std.proofs.Common.{take, set, slice_get, ap, sym, arith}
+use Rattle.std.proofs.Common.{◌≡◌, ◌<◌, ◌++◌, ℕ, zero, suc, Some, List, [], ◌∷◌, drop, length, map, take, set, slice_get, ap, sym, arith}
 
 -- a place is written where those so far end
 pub one_more : {X Y : Type 0} (f : X → Y) (xs : List X) (ys : List Y) (i : ℕ) (x : X) → slice_get xs i ≡ Some x → i < length ys

@@ -1,8 +1,7 @@
 -- The argument of a seek and the track that it names are two views of one thing.
 use Rattle.std.proofs.Common.{◌≡◌, ℕ, Bool, true, false, ◌&&◌, cond, List, Some, None, refl, nat_lt}
 use Rattle.std.specs.Option.{option_map_or}
-use Rattle.ckd_core.specs.Track.{has_no_bin, cylinder_of, head_of, is_allowed, is_allowed_track}
-use Rattle.ckd_core.specs.Track.{track_of}
+use Rattle.ckd_core.specs.Track.{has_no_bin, cylinder_of, head_of, is_allowed, is_allowed_track, track_of}
 use Rattle.ckd_core.specs.Extents.{has_cylinder}
 use Rattle.ckd_core.specs.declared.track.Track.{Track}
 

@@ -1,22 +1,15 @@
 -- Masks by their levels: what they permit, and which are at least as strict.
-use Rattle.std.proofs.Common.{◌≡◌, ◌||◌, not, ℕ, zero, suc, ◌<◌, ◌≤◌, ◌==◌, nat_le, nat_lt, bit_and}
-use Rattle.std.proofs.Common.{Bool, true, false, ◌&&◌, get_or, refl, ◌∙◌, subst, ◌↔◌, arith, rules}
+use Rattle.std.proofs.Common.{◌≡◌, ◌||◌, not, ℕ, zero, suc, ◌<◌, ◌≤◌, ◌==◌, nat_le, nat_lt, bit_and, Bool, true, false, ◌&&◌, get_or, refl, ◌∙◌, subst, ◌↔◌, arith, rules}
 use Rattle.std.specs.Cmp.{first_so, second_so}
 use Rattle.std.specs.Cmp.Derive.{one_truth}
 use Rattle.std.specs.List.{list_all, range_with_len}
-use Rattle.std.proofs.lemmas.Bool.{and_from, and_parts, both_ways, eqb-true, false_from_ne_true}
-use Rattle.std.proofs.lemmas.Bool.{le-leb, le-ltb, leb-true, ltb-false, ltb-true, or_from, or_parts}
-use Rattle.std.proofs.lemmas.Bool.{true_from_ne_false}
+use Rattle.std.proofs.lemmas.Bool.{and_from, and_parts, both_ways, eqb-true, false_from_ne_true, le-leb, le-ltb, leb-true, ltb-false, ltb-true, or_from, or_parts, true_from_ne_false}
 use Rattle.std.proofs.lemmas.List.FromFn.{get_or-range_with_len}
 use Rattle.std.proofs.lemmas.List.Sums.{AllPass-from_list_all, list_all-from_AllPass}
 use Rattle.ckd_core.specs.declared.command.MaskClass.{MaskClass}
-use Rattle.ckd_core.specs.declared.command.MaskClass.TheVariants.{Plain, Seek, SeekCylinder}
-use Rattle.ckd_core.specs.declared.command.MaskClass.TheVariants.{SeekHead, Recalibrate, WriteHome}
-use Rattle.ckd_core.specs.declared.command.MaskClass.TheVariants.{WriteFormat, WriteUpdate, SetMask}
-use Rattle.ckd_core.specs.Levels.{level_of_writes, level_of_seeks, write_level, seek_level}
-use Rattle.ckd_core.specs.Levels.{writes_up_to, seeks_up_to, mask_of}
-use Rattle.ckd_core.specs.Mask.{is_mask, is_at_least, inhibits_class, inhibits_write, inhibits_seek}
-use Rattle.ckd_core.specs.Mask.{inhibits_too, inhibitable, StrictnessIsByClass}
+use Rattle.ckd_core.specs.declared.command.MaskClass.TheVariants.{Plain, Seek, SeekCylinder, SeekHead, Recalibrate, WriteHome, WriteFormat, WriteUpdate, SetMask}
+use Rattle.ckd_core.specs.Levels.{level_of_writes, level_of_seeks, write_level, seek_level, writes_up_to, seeks_up_to, mask_of}
+use Rattle.ckd_core.specs.Mask.{is_mask, is_at_least, inhibits_class, inhibits_write, inhibits_seek, inhibits_too, inhibitable, StrictnessIsByClass}
 
 pub write_level-le : (m : ℕ) → write_level m ≤ 3
 write_level-le m = search rules

@@ -1,6 +1,5 @@
 -- The command table: looking up in it, and what holds of each command that it gives.
-use Rattle.std.proofs.Common.{◌≡◌, ℕ, true, false, nat_eq, cond, List, [], ◌∷◌, ◌++◌, Option, Some}
-use Rattle.std.proofs.Common.{None, refl, ap, sym, ◌∙◌}
+use Rattle.std.proofs.Common.{◌≡◌, ℕ, true, false, nat_eq, cond, List, [], ◌∷◌, ◌++◌, Option, Some, None, refl, ap, sym, ◌∙◌}
 use Rattle.std.specs.Option.{option_or}
 use Rattle.ckd_core.specs.Command.{Entry, lookup, find_code, class_passes}
 use Rattle.ckd_core.specs.Mask.{inhibits, inhibits_class}

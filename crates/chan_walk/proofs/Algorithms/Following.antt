@@ -1,20 +1,11 @@
 -- Following the chain of a seek, CCW by CCW: which bytes of an argument it gives.
-use Rattle.chan_walk.proofs.Names.{AllByRecursion, and_parts, ap, append-nil, append_assoc}
-use Rattle.chan_walk.proofs.Names.{argument_addresses, arith, both_ways, byte, cases_lt, ccw}
-use Rattle.chan_walk.proofs.Names.{ccw_at, ccw_at-some, chains_data, false, Fields, get_or}
-use Rattle.chan_walk.proofs.Names.{has_data_in, inl, inr, is_inside, is_part, IsChain, leb-true}
-use Rattle.chan_walk.proofs.Names.{length, length-append, length-map, List, map, None}
-use Rattle.chan_walk.proofs.Names.{range_with_len, refl, rules, Some, subst, suc, sym, take, true}
-use Rattle.chan_walk.proofs.Names.{zero, ℕ, [], ◌++◌, ◌+◌, ◌-◌, ◌<◌, ◌∙◌, ◌∷◌, ◌≡◌, ◌≤◌, ◌⊎◌}
+use Rattle.chan_walk.proofs.Names.{[], AllByRecursion, and_parts, ap, append-nil, append_assoc, AreLinked, AreZeroFrom, argument_addresses, arith, both_ways, byte, cases_lt, ccw, ccw_at, ccw_at-some, chains_data, data_addresses, false, Fields, get_or, get_or-append, get_or-map, has_data_in, inl, inr, is_inside, is_part, IsChain, joined, leb-true, length, length-append, length-map, length-range_with_len, List, map, None, onward, range_with_len, refl, rules, Some, subst, suc, sym, take, take_all, total, true, zero, ℕ, ◌++◌, ◌+◌, ◌-◌, ◌<◌, ◌∙◌, ◌∷◌, ◌≡◌, ◌≤◌, ◌⊎◌}
 use Rattle.std.proofs.Common.{length-take-le}
-use Rattle.std.proofs.lemmas.List.{ext_get_or, get_or-append-add, get_or-map, get_or-take, take_all}
-use Rattle.std.proofs.lemmas.List.FromFn.{get_or-range_with_len, length-range_with_len}
-use Rattle.std.proofs.Math.ListN.{get_or-append}
+use Rattle.std.proofs.lemmas.List.{ext_get_or, get_or-append-add, get_or-take}
+use Rattle.std.proofs.lemmas.List.FromFn.{get_or-range_with_len}
 use Rattle.chan_walk.specs.declared.argument.GivenBytes.{GivenBytes}
-use Rattle.chan_walk.specs.Argument.{AreLinked, data_addresses, joined, total}
-use Rattle.chan_walk.specs.Operand.{AreZeroFrom, IsFront, IsFrontOf, AreOfArgument, IsShort, onward}
-use Rattle.chan_walk.proofs.Theory.Chains.{chain_begins_with_part, chain_cons, chain_tail}
-use Rattle.chan_walk.proofs.Theory.Chains.{onward_leads, onward_only, part_counts}
+use Rattle.chan_walk.specs.Operand.{IsFront, IsFrontOf, AreOfArgument, IsShort}
+use Rattle.chan_walk.proofs.Theory.Chains.{chain_begins_with_part, chain_cons, chain_tail, onward_leads, onward_only, part_counts}
 use Rattle.chan_walk.proofs.Theory.CheckCases.{found_is_part, is_part-none}
 use Rattle.chan_walk.proofs.Theory.Lists.{all_append, range_split, take_front}
 

@@ -1,16 +1,6 @@
 -- Two jobs of one program that grant the same: everything that the verdict asks is the same.
-use Rattle.chan_walk.proofs.Names.{ap, Bool, byte, ccw_of, program_check, cond, covered, extents_of}
-use Rattle.chan_walk.proofs.Names.{false, fetch_of, Fields, first_reason, has_cylinder, HasArgument}
-use Rattle.chan_walk.proofs.Names.{HasFault, if◌then◌else◌, inhibits, is_at_least, is_refused}
-use Rattle.chan_walk.proofs.Names.{is_transfer, IsReachable, IsVerdict, Job, length, List, None}
-use Rattle.chan_walk.proofs.Names.{Option, option_or, Place, Reason, refl, rules, Some, storage_of}
-use Rattle.chan_walk.proofs.Names.{store_of, subst, sym, table_of_own, true, ℕ, ◌+◌, ◌↔◌, ◌∙◌, ◌≡◌}
-use Rattle.chan_walk.proofs.Names.{◌≤◌}
-use Rattle.chan_walk.specs.declared.verdict.Verdict.{Verdict}
-use Rattle.chan_walk.specs.Fault.{fault_with}
-use Rattle.chan_walk.specs.OpenJob.{AreOfOneProgram, GrantsMore}
-use Rattle.chan_walk.proofs.Theory.Granting.{turned, ccw_over, carries, same_first, covered_more}
-use Rattle.chan_walk.proofs.Theory.Granting.{refused_more}
+use Rattle.chan_walk.proofs.Names.{ap, AreOfOneProgram, Bool, byte, ccw_of, cond, covered, extents_of, false, fault_with, fetch_of, Fields, first_reason, GrantsMore, has_cylinder, HasArgument, HasFault, if◌then◌else◌, inhibits, is_at_least, is_refused, is_transfer, IsReachable, IsVerdict, Job, length, List, None, Option, option_or, Place, program_check, Reason, refl, rules, Some, storage_of, store_of, subst, sym, table_of_own, true, Verdict, ℕ, ◌+◌, ◌↔◌, ◌∙◌, ◌≡◌, ◌≤◌}
+use Rattle.chan_walk.proofs.Theory.Granting.{turned, ccw_over, carries, same_first, covered_more, refused_more}
 use Rattle.chan_walk.proofs.Theory.Transport.{CarriesOver, same_reached, same_verdicts}
 use Rattle.chan_walk.proofs.Theory.OwnFaults.{data_in_storage}
 use Rattle.chan_walk.proofs.Theory.Masks.{laxer_permits, strict_as_laxer}

@@ -1,30 +1,10 @@
 -- The areas of a guard while they are gathered, place by place.
-use Rattle.std.proofs.Common.{◌≡◌, ℕ, ◌+◌, ◌<◌, ◌≤◌, ◌^◌, true, ◌++◌, List, [], ◌∷◌, map, length}
-use Rattle.std.proofs.Common.{get_or, Option, is_some, refl, sym, ap, ◌∙◌, subst, ◌⊎◌, inl, inr}
-use Rattle.std.proofs.Common.{◌↔◌, arith, rules}
-use Rattle.std.specs.List.{All}
-use Rattle.std.proofs.lemmas.Bool.{or_cases, or_left, or_right, both_ways, leb-true}
-use Rattle.std.proofs.lemmas.List.Elements.{All-append, All-map}
-use Rattle.ccw_core.specs.declared.areas.Area.{Area}
-use Rattle.ccw_core.specs.Areas.{lies_in}
-use Rattle.ccw_core.specs.Ccw.{Fields}
-use Rattle.ccw_core.specs.Storage.{Stands, ccw_at, is_inside}
-use Rattle.ccw_core.proofs.Covering.{lies_in-nil}
-use Rattle.chan_walk.specs.declared.job.Job.{Job}
-use Rattle.chan_walk.specs.declared.place.Place.{Place}
-use Rattle.chan_walk.specs.Argument.{Has, IsChain, argument_addresses}
-use Rattle.chan_walk.specs.Fault.{begins_seek, IsClear}
-use Rattle.chan_walk.specs.Guard.{AddsBytes, IsCcwByteOf, IsSeekByteOf, IsArgumentByteOf, byte_area}
-use Rattle.chan_walk.specs.Guarded.{IsCcwByte, IsArgumentByte}
-use Rattle.chan_walk.specs.Job.{storage_of}
-use Rattle.chan_walk.specs.Places.{AreReached}
-use Rattle.chan_walk.specs.Place.{ccw_of}
-use Rattle.chan_areas.specs.Merged.{AreExactly, EndsBelow}
+use Rattle.chan_walk.proofs.Names.{[], AddsBytes, All, All-append, ap, Area, AreExactly, AreReached, argument_addresses, arith, begins_seek, both_ways, byte_area, ccw_at, ccw_of, EndsBelow, Fields, get_or, Has, inl, inr, is_inside, is_some, IsArgumentByte, IsArgumentByteOf, IsCcwByte, IsCcwByteOf, IsChain, IsClear, IsSeekByteOf, Job, leb-true, length, lies_in, lies_in-cases, lies_in-first, lies_in-nil, List, map, Option, or_cases, or_left, or_right, Place, refl, rules, Stands, STORAGE_LIMIT, storage_of, subst, sym, true, ℕ, ◌++◌, ◌+◌, ◌<◌, ◌^◌, ◌↔◌, ◌∙◌, ◌∷◌, ◌≡◌, ◌≤◌, ◌⊎◌}
+use Rattle.std.proofs.lemmas.List.Elements.{All-map}
 use Rattle.chan_walk.proofs.Theory.Chains.{chain_unique}
 use Rattle.chan_walk.proofs.Theory.Lists.{has_left, has_right, has_cases}
-use Rattle.chan_areas.proofs.Merging.{lies_in-append, lies_in-cases, lies_in-first, lies_in-rest}
+use Rattle.chan_areas.proofs.Merging.{lies_in-append, lies_in-rest}
 use Rattle.std.proofs.lemmas.List.{get_or_default}
-use Rattle.ccw_core.specs.declared.ccw.TheConstants.{STORAGE_LIMIT}
 
 -- the areas have exactly the bytes that are P's at some place of the list
 abbrev pub HoldBytes : (Place → ℕ → Type 0) → List Place → List Area → Type 0

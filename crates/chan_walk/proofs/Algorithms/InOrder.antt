@@ -1,29 +1,18 @@
 -- The marked places, written out in order.
-use Rattle.chan_walk.proofs.Names.{MarksAgree, AllByRecursion, ap, append_assoc, AreDistinct, arith}
-use Rattle.chan_walk.proofs.Names.{bit_at, Bool, BTreeMap, cases_lt, false, Has, inl, inr, IsWalked}
-use Rattle.chan_walk.proofs.Names.{Job, length, length-map, List, map, marks_of, nat_cmp, None}
-use Rattle.chan_walk.proofs.Names.{Option, Place, refl, rules, Some, subst, suc, sym, true, way_of}
-use Rattle.chan_walk.proofs.Names.{zero, ℕ, [], ◌++◌, ◌+◌, ◌-◌, ◌<◌, ◌↔◌, ◌∙◌, ◌∷◌, ◌≡◌, ◌≤◌, ◌⊎◌}
-use Rattle.std.proofs.Common.{◌*◌, ◌==◌, eqb, Less}
-use Rattle.std.proofs.lemmas.Grind.{common_steps}
+use Rattle.chan_walk.proofs.Names.{[], AllByRecursion, ap, append_assoc, AreDistinct, arith, bit_at, Bool, BTreeMap, cases_lt, common_steps, eq-eqb, eqb, eqb-true, false, Has, HasWay, inl, inr, IsStrictlySortedBy, IsWalked, Job, length, length-map, Less, List, ListsMarks, map, marks_of, marks_or_none, MarksAgree, nat_cmp, nat_tests, None, Option, or_cases, or_left, or_right, Place, place_at, place_number, places_of, refl, rules, Some, subst, suc, sym, true, way_of, ways, zero, ℕ, ◌*◌, ◌++◌, ◌+◌, ◌-◌, ◌<◌, ◌==◌, ◌↔◌, ◌∙◌, ◌∷◌, ◌≡◌, ◌≤◌, ◌⊎◌}
 use Rattle.std.specs.List.{IsDistinct, list_any}
-use Rattle.std.specs.List.Sorted.{IsStrictlySortedBy}
 use Rattle.std.specs.Map.{keys_of}
-use Rattle.std.proofs.lemmas.Bool.{ne_eqb, eqb-true, eq-eqb, or_cases, or_left, or_right}
-use Rattle.std.proofs.lemmas.Bool.Decides.{nat_tests}
+use Rattle.std.proofs.lemmas.Bool.{ne_eqb}
 use Rattle.std.proofs.lemmas.Cmp.{nat_cmp_total, nat_eq_equiv}
 use Rattle.std.proofs.lemmas.Map.Made.{length-le_from_is_member}
 use Rattle.std.proofs.lemmas.Map.Lookups.{exact_unsigned}
 use Rattle.std.proofs.lemmas.Map.Views.{btree_map_get_iff}
 use Rattle.std.proofs.lemmas.Map.Keys.{IsStrictlyIncreasing-from_sorted}
 use Rattle.std.proofs.lemmas.Nat.Bits.{bit_at-zero}
-use Rattle.chan_walk.specs.Places.{AreReachable, place_number}
-use Rattle.chan_walk.specs.Marks.{put, ways, place_at, places_at, places_of, HasMark, HasWay}
-use Rattle.chan_walk.specs.Marks.{ListsMarks, marks_or_none}
-use Rattle.chan_walk.proofs.Theory.Lists.{contains_has, has_cases, has_contains, has_left}
-use Rattle.chan_walk.proofs.Theory.Lists.{has_right}
-use Rattle.chan_walk.proofs.Algorithms.Marks.{way_small, way_of-place_at, place_at-way_of}
-use Rattle.chan_walk.proofs.Algorithms.Marks.{same_number}
+use Rattle.chan_walk.specs.Places.{AreReachable}
+use Rattle.chan_walk.specs.Marks.{put, places_at, HasMark}
+use Rattle.chan_walk.proofs.Theory.Lists.{contains_has, has_cases, has_contains, has_left, has_right}
+use Rattle.chan_walk.proofs.Algorithms.Marks.{way_small, way_of-place_at, place_at-way_of, same_number}
 use Rattle.chan_walk.proofs.Algorithms.Walking.{all_found}
 use Rattle.std.specs.BTreeMap as tree
 

@@ -1,47 +1,21 @@
 -- The first of a job's offences is the verdict.
-use Rattle.chan_walk.proofs.Names.{AllByRecursion, ap, append-nil, append_assoc, Area, AreDistinct}
-use Rattle.chan_walk.proofs.Names.{AreReached, arith, Bool, both_ways, cases_lt, ccw_at-some}
-use Rattle.chan_walk.proofs.Names.{ChangesGuarded, false, get_or, Has, HasFault, HasOffences, inl}
-use Rattle.chan_walk.proofs.Names.{inr, IsArgumentByte, IsCcwByte, IsClear, HasOwnFault}
-use Rattle.chan_walk.proofs.Names.{IsReachable, Job, length, lies_in, List, map, min, nat_cmp, None}
-use Rattle.chan_walk.proofs.Names.{Offends, Option, Place, place_of, places_of_looks, Reason, refl}
-use Rattle.chan_walk.proofs.Names.{rules, SeekOutside, Seen, Some, StoresOver, subst, sym, take}
-use Rattle.chan_walk.proofs.Names.{true, way_of, WeakensMask, ℕ, [], ◌++◌, ◌<◌, ◌↔◌, ◌∙◌, ◌∷◌, ◌≡◌}
-use Rattle.chan_walk.proofs.Names.{◌≤◌, ◌⊎◌}
-use Rattle.std.proofs.Common.{IsTrue, ◌==◌, drop, slice_get, Less}
-use Rattle.std.proofs.lemmas.Grind.{common_steps}
-use Rattle.std.specs.List.Sorted.{IsNonDecreasingBy, IsPermutation, IsStrictlyIncreasing}
-use Rattle.std.specs.List.Sorted.{IsStrictlySortedBy}
-use Rattle.std.proofs.lemmas.Bool.{eq-eqb, eqb-true}
-use Rattle.std.proofs.lemmas.List.{length-take, map-append, take-append-drop}
-use Rattle.std.proofs.lemmas.List.Sorted.{Contains-permutation, IsPermutation-map}
-use Rattle.std.proofs.lemmas.List.Sorted.{IsPermutation-sym}
-use Rattle.std.proofs.lemmas.Map.Keys.{IsDistinct-IsPermutation, IsStrictlyIncreasing-from_distinct}
+use Rattle.chan_walk.proofs.Names.{[], AllByRecursion, ap, append-nil, append_assoc, Area, AreDistinct, AreReached, arith, BadFormat, Bool, both_ways, cases_lt, ccw_at-some, ccw_at-where, ChangesArgument, ChangesCcw, ChangesGuarded, common_steps, Contains-permutation, DataOutside, eq-eqb, eqb-true, false, FetchNotLent, get_or, Has, HasFault, HasOffences, HasOwnFault, Inhibited, inl, inr, InvalidCode, IsArgumentByte, IsCcwByte, IsClear, IsDistinct-IsPermutation, IsLook, IsNonDecreasingBy, IsPermutation, IsPermutation-map, IsPermutation-sym, IsReachable, IsStrictlyIncreasing, IsStrictlyIncreasing-from_distinct, IsStrictlySortedBy, IsTrue, Job, length, Less, lies_in, List, map, map-append, min, Misaligned, nat_cmp, None, NotInTable, offence_number, Offends, Option, OutsideStorage, Place, place_of, places_of_looks, Reason, refl, rules, SeekOutside, Seen, ShortSeek, slice_get, Some, StoreNotLent, StoresOver, subst, sym, take, TransferNotAllowed, true, way_of, WeakensMask, ZeroCount, ℕ, ◌++◌, ◌<◌, ◌==◌, ◌↔◌, ◌∙◌, ◌∷◌, ◌≡◌, ◌≤◌, ◌⊎◌}
+use Rattle.std.proofs.Common.{drop}
+use Rattle.std.proofs.lemmas.List.{length-take, take-append-drop}
 use Rattle.std.proofs.lemmas.Map.Keys.{sorted_from_strictly_increasing}
-use Rattle.ccw_core.proofs.StorageLemmas.{ccw_at-where}
 use Rattle.chan_walk.specs.declared.offence.Offence.{Offence}
-use Rattle.chan_walk.specs.declared.reason.Reason.TheVariants.{Misaligned, OutsideStorage}
-use Rattle.chan_walk.specs.declared.reason.Reason.TheVariants.{TransferNotAllowed, InvalidCode}
-use Rattle.chan_walk.specs.declared.reason.Reason.TheVariants.{BadFormat, ZeroCount, DataOutside}
-use Rattle.chan_walk.specs.declared.reason.Reason.TheVariants.{NotInTable, Inhibited, StoreNotLent}
-use Rattle.chan_walk.specs.declared.reason.Reason.TheVariants.{FetchNotLent, ShortSeek, ChangesCcw}
-use Rattle.chan_walk.specs.declared.reason.Reason.TheVariants.{ChangesArgument}
-use Rattle.chan_walk.specs.Look.{IsLook}
-use Rattle.chan_walk.specs.Offence.{AddsOffences, AreAllOffences, AreOffences, FirstIsVerdict}
-use Rattle.chan_walk.specs.Offence.{Offending, StoresInto, offence_number}
+use Rattle.chan_walk.specs.Offence.{AddsOffences, AreAllOffences, AreOffences, FirstIsVerdict, Offending, StoresInto}
 use Rattle.chan_walk.specs.Reason.{number_of}
 use Rattle.chan_walk.specs.Verdict.{ComesFirst}
 use Rattle.chan_walk.proofs.Theory.Checks.{check_stands}
 use Rattle.chan_walk.proofs.Theory.Faults.{clear_check, fault_unique}
 use Rattle.chan_walk.proofs.Algorithms.InOrder.{cmp_less, distinct_numbers}
-use Rattle.chan_walk.proofs.Theory.Lists.{contains_has, has_cases, has_contains, has_left, has_push}
-use Rattle.chan_walk.proofs.Theory.Lists.{has_right, at_has}
+use Rattle.chan_walk.proofs.Theory.Lists.{contains_has, has_cases, has_contains, has_left, has_push, has_right, at_has}
 use Rattle.chan_walk.proofs.Algorithms.Looking.{number_of_places, place_at}
 use Rattle.chan_walk.proofs.Algorithms.Marks.{same_place, way_small}
 use Rattle.chan_walk.proofs.Algorithms.Sorting.{eqb_flips, non_decreasing}
 use Rattle.chan_walk.proofs.Algorithms.Tracing.{same_index}
-use Rattle.chan_walk.proofs.Algorithms.Verdicts.{change_of, clear_all, meets_from_over, not_clear}
-use Rattle.chan_walk.proofs.Algorithms.Verdicts.{over_from_meets}
+use Rattle.chan_walk.proofs.Algorithms.Verdicts.{change_of, clear_all, meets_from_over, not_clear, over_from_meets}
 use Rattle.chan_walk.proofs.Algorithms.Walking.{slice_get-append}
 
 -- an offence by its place and its reason
@@ -253,8 +227,4 @@ no_offence os n b l e f = grind (arith, common_steps, eqb-true)
 -- the same offences in order
 pub put_in_order : (j : Job) (os ts : List Offence) → AreAllOffences j os
     → IsStrictlyIncreasing (map offence_number ts) → ((o : Offence) → Has ts o ↔ Has os o) → AreOffences j ts
-put_in_order j os ts all up same = record {
-  ordered = up;
-  each = λ o h. (same o).1 ((all.exactly o).1 h);
-  only = λ o h. (all.exactly o).0 ((same o).0 h);
-}
+put_in_order j os ts all up same = record { ordered = up; each = λ o h. (same o).1 ((all.exactly o).1 h); only = λ o h. (all.exactly o).0 ((same o).0 h) }

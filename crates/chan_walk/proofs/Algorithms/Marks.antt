@@ -1,14 +1,9 @@
 -- Marks, and the places that they tell of.
-use Rattle.chan_walk.proofs.Names.{MarksAgree, ap, arith, bit_at, Bool, BTreeMap, false, List}
-use Rattle.chan_walk.proofs.Names.{marks_of, nat_cmp, Place, rules, Some, sym, way_of, ℕ, [], ◌%◌}
-use Rattle.chan_walk.proofs.Names.{◌++◌, ◌<◌, ◌^◌, ◌∙◌, ◌∷◌, ◌≡◌}
-use Rattle.std.proofs.Common.{◌*◌, w8}
+use Rattle.chan_walk.proofs.Names.{[], ap, arith, bit_at, Bool, BTreeMap, Entry, false, List, marks_of, marks_or_none, MarksAgree, nat_cmp, nat_tests, Place, place_at, place_number, rules, Some, sym, way_of, ℕ, ◌%◌, ◌*◌, ◌++◌, ◌<◌, ◌^◌, ◌∙◌, ◌∷◌, ◌≡◌}
+use Rattle.std.proofs.Common.{w8}
 use Rattle.std.specs.Int.RustNames.{bit_or}
-use Rattle.std.proofs.lemmas.Bool.Decides.{nat_tests}
 use Rattle.std.proofs.lemmas.Nat.Bits.{bit_at_set_same, bit_at_set_other}
-use Rattle.chan_walk.specs.declared.place.Entry.{Entry}
-use Rattle.chan_walk.specs.Places.{entry_number, transfer_number, place_number}
-use Rattle.chan_walk.specs.Marks.{place_at, marks_or_none}
+use Rattle.chan_walk.specs.Places.{entry_number, transfer_number}
 use Rattle.chan_walk.specs.Walk.{Marks}
 use Rattle.chan_walk.proofs.Theory.Lists.{has_push}
 use Rattle.std.specs.BTreeMap as tree

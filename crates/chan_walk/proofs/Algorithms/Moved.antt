@@ -1,17 +1,8 @@
 -- The data of reachable CCWs, place by place.
-use Rattle.chan_walk.proofs.Names.{ap, Area, AreReached, Bool, both_ways, ccw_at-some, ccw_of}
-use Rattle.chan_walk.proofs.Names.{data_of, Fields, inl, inr, is_aligned, is_inside, Job, length}
-use Rattle.chan_walk.proofs.Names.{lies_in, List, Place, rules, Seen, Some, storage_of, subst, sym}
-use Rattle.chan_walk.proofs.Names.{true, ℕ, [], ◌<◌, ◌↔◌, ◌∙◌, ◌∷◌, ◌≡◌, ◌≤◌, ◌⊎◌}
-use Rattle.std.proofs.lemmas.Option.{same_Some}
-use Rattle.ccw_core.specs.Areas.{end_of}
-use Rattle.ccw_core.proofs.Covering.{lies_in-nil}
+use Rattle.chan_walk.proofs.Names.{[], AddsBytes, ap, Area, AreReached, Bool, both_ways, ccw_at-some, ccw_of, data_of, end_of, Fields, inl, inr, is_aligned, is_inside, IsDataOf, IsLook, IsSeenByte, Job, length, lies_in, lies_in-cases, lies_in-first, lies_in-nil, List, Place, rules, same_Some, Seen, Some, storage_of, subst, sym, true, ℕ, ◌<◌, ◌↔◌, ◌∙◌, ◌∷◌, ◌≡◌, ◌≤◌, ◌⊎◌}
 use Rattle.chan_walk.specs.Place.{data_at}
-use Rattle.chan_walk.specs.Guard.{AddsBytes}
-use Rattle.chan_walk.specs.Look.{IsLook}
-use Rattle.chan_walk.specs.Moved.{IsDataOf, IsSeenByte, PassesTest}
+use Rattle.chan_walk.specs.Moved.{PassesTest}
 use Rattle.chan_walk.proofs.Algorithms.Guarding.{HoldBytes}
-use Rattle.chan_areas.proofs.Merging.{lies_in-cases, lies_in-first}
 use Rattle.chan_walk.proofs.Algorithms.Looking.{ccw_seen}
 
 -- the CCW at p passes the test, and its data range has the byte at b

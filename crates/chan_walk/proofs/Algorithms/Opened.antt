@@ -1,7 +1,6 @@
 -- The open job as the code makes it.
-use Rattle.chan_walk.proofs.Names.{Area, has_cylinder, is_at_least, Job, lies_in, List, refl, subst}
-use Rattle.chan_walk.proofs.Names.{sym, true, ◌≡◌}
-use Rattle.chan_walk.specs.OpenJob.{AreOfOneProgram, GrantsMore, open_job, IsOpenJob, OpenJobIsOpen}
+use Rattle.chan_walk.proofs.Names.{Area, AreOfOneProgram, GrantsMore, has_cylinder, is_at_least, Job, lies_in, List, refl, subst, sym, true, ◌≡◌}
+use Rattle.chan_walk.specs.OpenJob.{open_job, IsOpenJob, OpenJobIsOpen}
 use Rattle.chan_walk.proofs.Theory.Granting.{turned}
 use Rattle.chan_walk.proofs.Theory.Masks.{strict_as_itself}
 use Rattle.chan_walk.proofs.Algorithms.Granted.{same_by_grants}

@@ -1,17 +1,10 @@
 -- Looks put in order of place.
-use Rattle.chan_walk.proofs.Names.{ap, AreDistinct, arith, get_or, Has, length, length-map, List}
-use Rattle.chan_walk.proofs.Names.{map, nat_cmp, Place, place_of, places_of_looks, rules, Seen, sym}
-use Rattle.chan_walk.proofs.Names.{ℕ, [], ◌+◌, ◌<◌, ◌↔◌, ◌∙◌, ◌∷◌, ◌≡◌}
-use Rattle.std.proofs.Common.{Ordering, eqb}
-use Rattle.std.specs.List.Sorted.{IsNonDecreasing, IsNonDecreasingBy, IsPermutation, IsSortedByKey}
-use Rattle.std.specs.List.Sorted.{IsStrictlyIncreasing}
+use Rattle.chan_walk.proofs.Names.{[], ap, AreDistinct, arith, Contains-permutation, eqb, get_or, get_or-map, Has, IsDistinct-IsPermutation, IsNonDecreasingBy, IsPermutation, IsPermutation-map, IsPermutation-sym, IsStrictlyIncreasing, IsStrictlyIncreasing-from_distinct, length, length-map, List, map, nat_cmp, Place, place_number, place_of, places_of_looks, rules, Seen, sym, ℕ, ◌+◌, ◌<◌, ◌↔◌, ◌∙◌, ◌∷◌, ◌≡◌}
+use Rattle.std.proofs.Common.{Ordering}
+use Rattle.std.specs.List.Sorted.{IsNonDecreasing, IsSortedByKey}
 use Rattle.std.specs.Ordering.{is_lt}
-use Rattle.std.proofs.lemmas.List.{get_or-map}
-use Rattle.std.proofs.lemmas.List.Sorted.{IsNonDecreasingBy-from_sort, IsPermutation-map}
-use Rattle.std.proofs.lemmas.List.Sorted.{IsPermutation-sym, Contains-permutation}
-use Rattle.std.proofs.lemmas.Map.Keys.{IsDistinct-IsPermutation, IsStrictlyIncreasing-from_distinct}
+use Rattle.std.proofs.lemmas.List.Sorted.{IsNonDecreasingBy-from_sort}
 use Rattle.std.proofs.lemmas.Simd.{map-map}
-use Rattle.chan_walk.specs.Places.{place_number}
 use Rattle.chan_walk.proofs.Algorithms.InOrder.{distinct_numbers}
 use Rattle.chan_walk.proofs.Theory.Lists.{contains_has, has_contains}
 use Rattle.chan_walk.proofs.Algorithms.Marks.{same_number}

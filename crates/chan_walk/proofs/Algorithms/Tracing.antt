@@ -1,20 +1,12 @@
 -- From which place each place was found: the path back is the shortest, and the one that goes to next.
-use Rattle.chan_walk.proofs.Names.{AddsPlace, ap, AreDistinct, AreSuccessors, arith, cases_lt}
-use Rattle.chan_walk.proofs.Names.{first_place, Has, HasFault, inl, inr, IsPath, IsReachable, Job}
-use Rattle.chan_walk.proofs.Names.{length, length-append, List, None, Option, Place, Reason, refl}
-use Rattle.chan_walk.proofs.Names.{rules, Some, subst, suc, sym, zero, ℕ, [], ◌++◌, ◌+◌, ◌<◌, ◌∙◌}
-use Rattle.chan_walk.proofs.Names.{◌∷◌, ◌≡◌, ◌≤◌, ◌⊎◌}
-use Rattle.std.proofs.Common.{slice_index}
+use Rattle.chan_walk.proofs.Names.{[], AddsPlace, ap, AreDistinct, AreSuccessors, arith, cases_lt, first_place, Follows, get_or-append, Has, HasFault, inl, inr, IsAmong, IsPath, IsReachable, IsTraced, Job, length, length-append, List, Next, None, Option, Place, Reason, refl, rules, slice_index, Some, subst, suc, sym, zero, ℕ, ◌++◌, ◌+◌, ◌<◌, ◌∙◌, ◌∷◌, ◌≡◌, ◌≤◌, ◌⊎◌}
 use Rattle.std.specs.List.{slice_get}
-use Rattle.chan_walk.specs.declared.successor.Next.{Next}
 use Rattle.chan_walk.specs.Paths.{IsNext, IsSkip, IsFirstOf}
-use Rattle.chan_walk.specs.Walk.{AreSiblings, Follows, IsAmong, IsBestPath, IsFoundBy, IsFoundFrom}
-use Rattle.chan_walk.specs.Walk.{IsTraced}
+use Rattle.chan_walk.specs.Walk.{AreSiblings, IsBestPath, IsFoundBy, IsFoundFrom}
 use Rattle.chan_walk.proofs.Theory.Faults.{fault_exists}
 use Rattle.chan_walk.proofs.Theory.Lists.{has_at, at_has}
 use Rattle.chan_walk.proofs.Algorithms.Walking.{follows_exactly, slice_get-append}
 use Rattle.std.proofs.Math.Seq.{get_or-append_seam}
-use Rattle.std.proofs.Math.ListN.{get_or-append}
 use Rattle.std.proofs.lemmas.Option.{slice_get_within}
 
 -- ---- lists by their index
@@ -166,15 +158,7 @@ traced_more j ps fs i t = record {
   from = λ k h l.
       let r = t.from k h l in
       let a = r.among in
-      record {
-        parent = r.parent;
-        child = r.child;
-        there = r.there;
-        here = r.here;
-        follows = r.follows;
-        earlier = r.earlier;
-        among = omega arith;
-      };
+      record { parent = r.parent; child = r.child; there = r.there; here = r.here; follows = r.follows; earlier = r.earlier; among = omega arith };
   rising = t.rising;
   siblings = t.siblings;
   found = t.found;

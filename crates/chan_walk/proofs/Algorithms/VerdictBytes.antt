@@ -1,20 +1,9 @@
 -- Over another storage that is the same in the bytes that count, everything that the verdict asks is the same.
-use Rattle.chan_walk.proofs.Names.{AllByRecursion, and_parts, ap, argument, argument_addresses}
-use Rattle.chan_walk.proofs.Names.{begins_seek, begins_set_mask, Bool, byte, bytes_held, ccw}
-use Rattle.chan_walk.proofs.Names.{ccw_of, chains_data, program_check, program_check_of, false}
-use Rattle.chan_walk.proofs.Names.{Fields, first_reason, Has, has_data_in, HasArgument, HasFault}
-use Rattle.chan_walk.proofs.Names.{if◌then◌else◌, inl, inr, is_aligned, has_count, is_formed}
-use Rattle.chan_walk.proofs.Names.{is_inside, is_part, is_transfer, IsChain, IsClear, IsReachable}
-use Rattle.chan_walk.proofs.Names.{IsSameIn, Job, ChainLeads, length, List, map, None, not, Option}
-use Rattle.chan_walk.proofs.Names.{option_or, Place, range_with_len, Reason, refl, rules, Some}
-use Rattle.chan_walk.proofs.Names.{Stands, storage_of, subst, sym, table_of_own, take}
-use Rattle.chan_walk.proofs.Names.{TakesArgumentByte, true, ℕ, [], ◌&&◌, ◌++◌, ◌+◌, ◌<◌, ◌↔◌, ◌∙◌}
-use Rattle.chan_walk.proofs.Names.{◌∷◌, ◌≡◌, ◌≤◌}
+use Rattle.chan_walk.proofs.Names.{[], AllByRecursion, and_parts, ap, AreLinked, argument, argument_addresses, at_once, begins_seek, begins_set_mask, BeginsAt, Bool, byte, bytes_held, ccw, ccw_of, ChainLeads, chains_data, command_faults, data_addresses, false, fault_with, Fields, first_reason, further, Has, has_count, has_data_in, HasArgument, HasFault, if◌then◌else◌, inl, inr, is_aligned, is_formed, is_inside, is_part, is_transfer, IsChain, IsChained, IsClear, IsReachable, IsSameIn, IsVerdictByte, Job, joined, length, lent_faults, List, map, None, not, Option, option_or, Place, program_check, program_check_of, range_with_len, Reason, refl, rules, Some, Stands, storage_of, subst, sym, table_of_own, take, TakesArgumentByte, total, true, with_storage, ℕ, ◌&&◌, ◌++◌, ◌+◌, ◌<◌, ◌↔◌, ◌∙◌, ◌∷◌, ◌≡◌, ◌≤◌}
 use Rattle.ccw_core.specs.declared.storage.Storage.{Storage}
-use Rattle.chan_walk.specs.Argument.{data_addresses, joined, total, but_last, AreLinked, BeginsAt}
-use Rattle.chan_walk.specs.VerdictBytes.{IsChained, at_once, further, IsVerdictByte, with_storage}
+use Rattle.chan_walk.specs.Argument.{but_last}
 use Rattle.chan_walk.specs.VerdictBytes.{SameVerdict}
-use Rattle.chan_walk.specs.Fault.{command_faults, lent_faults, seek_faults, mask_faults, fault_with}
+use Rattle.chan_walk.specs.Fault.{seek_faults, mask_faults}
 use Rattle.chan_walk.proofs.Theory.Chains.{argument_exists, argument_unique}
 use Rattle.chan_walk.proofs.Theory.Checks.{check_stands}
 use Rattle.chan_walk.proofs.Theory.Faults.{clear_check}

@@ -1,8 +1,5 @@
 -- What offends: own faults, and where there is none, changes.
-use Rattle.chan_walk.proofs.Names.{Area, AreClear, ccw_of, ChangesGuarded, Fields, HasFault, inl}
-use Rattle.chan_walk.proofs.Names.{inr, IsClear, HasOwnFault, IsReachable, Job, lies_in, List, None}
-use Rattle.chan_walk.proofs.Names.{Offends, Option, Place, Reason, rules, Some, stores, StoresOver}
-use Rattle.chan_walk.proofs.Names.{true, ℕ, ◌↔◌, ◌≡◌}
+use Rattle.chan_walk.proofs.Names.{Area, AreClear, ccw_of, ChangesGuarded, Fields, HasFault, HasOwnFault, inl, inr, IsClear, IsReachable, Job, lies_in, List, None, Offends, Option, Place, Reason, rules, Some, stores, StoresOver, true, ℕ, ◌↔◌, ◌≡◌}
 use Rattle.chan_areas.specs.Merged.{Meets}
 use Rattle.chan_walk.proofs.Theory.Faults.{fault_exists, fault_unique}
 

@@ -1,12 +1,6 @@
 -- What begins at a place, by the command that was looked up.
-use Rattle.chan_walk.proofs.Names.{begins_recalibrate, begins_seek, begins_set_mask, Bool, Fields}
-use Rattle.chan_walk.proofs.Names.{if◌then◌else◌, is_fresh, lookup, None, Option, Place, refl}
-use Rattle.chan_walk.proofs.Names.{rules, true, ◌&&◌, ◌≡◌}
-use Rattle.ckd_core.specs.declared.command.MaskClass.{MaskClass}
-use Rattle.ckd_core.specs.Command.{Entry as Command, class_is_seek, class_passes}
-use Rattle.ckd_core.specs.Command.{class_recalibrates, class_sets_mask, is_seek, recalibrates}
-use Rattle.ckd_core.specs.Command.{sets_mask}
-use Rattle.chan_walk.specs.Visit.{begun}
+use Rattle.chan_walk.proofs.Names.{begins_recalibrate, begins_seek, begins_set_mask, begun, Bool, class_is_seek, class_passes, class_recalibrates, class_sets_mask, Fields, if◌then◌else◌, is_fresh, is_seek, lookup, MaskClass, None, Option, Place, recalibrates, refl, rules, sets_mask, true, ◌&&◌, ◌≡◌}
+use Rattle.ckd_core.specs.Command.{Entry as Command}
 
 -- a test that only a fresh place can pass
 fresh_passes : (b : Bool) (test : MaskClass → Bool) (o : Option Command) → class_passes test (if b then o else None) ≡ (b && class_passes test o)

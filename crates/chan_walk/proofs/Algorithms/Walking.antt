@@ -1,17 +1,8 @@
 -- A walk finds what is reachable, and nothing else.
-use Rattle.chan_walk.proofs.Names.{AddsPlace, ap, AreDistinct, AreLooks, AreReached, AreSuccessors}
-use Rattle.chan_walk.proofs.Names.{arith, cases_lt, first_place, Has, HasFault, inl, inr, IsPath}
-use Rattle.chan_walk.proofs.Names.{IsReachable, IsWalked, Job, length, length-append, List, None}
-use Rattle.chan_walk.proofs.Names.{Option, Place, place_of, places_of_looks, Reason, refl, rules}
-use Rattle.chan_walk.proofs.Names.{Seen, Some, subst, suc, sym, zero, ℕ, [], ◌++◌, ◌+◌, ◌<◌, ◌↔◌}
-use Rattle.chan_walk.proofs.Names.{◌∙◌, ◌∷◌, ◌≡◌, ◌≤◌, ◌⊎◌}
-use Rattle.std.proofs.Common.{option_map}
+use Rattle.chan_walk.proofs.Names.{[], AddsPlace, ap, AreDistinct, AreLooks, AreReached, AreSuccessors, arith, cases_lt, first_place, Follows, Has, HasFault, HasFound, HasNoRoomFor, inl, inr, IsAmong, IsPath, IsReachable, IsWalked, Job, length, length-append, List, Next, None, Option, option_map, Place, place_of, places_of_looks, Reason, refl, rules, Seen, slice_get-map, Some, subst, suc, sym, zero, ℕ, ◌++◌, ◌+◌, ◌<◌, ◌↔◌, ◌∙◌, ◌∷◌, ◌≡◌, ◌≤◌, ◌⊎◌}
 use Rattle.std.specs.List.{slice_get}
-use Rattle.std.proofs.lemmas.Option.{slice_get-map}
-use Rattle.chan_walk.specs.declared.successor.Next.{Next}
 use Rattle.chan_walk.specs.Places.{HasMoreThan}
 use Rattle.chan_walk.specs.Successor.{Successor}
-use Rattle.chan_walk.specs.Walk.{Follows, IsAmong, HasFound, HasNoRoomFor}
 use Rattle.chan_walk.proofs.Theory.Faults.{fault_exists, fault_unique}
 use Rattle.chan_walk.proofs.Theory.Lists.{has_at, has_left, has_push, at_has}
 

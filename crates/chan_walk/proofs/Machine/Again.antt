@@ -1,12 +1,6 @@
 -- Where the verdict is yes, only guarded bytes count, and as these never change, it is yes again.
-use Rattle.chan_walk.proofs.Names.{ap, begins_seek, byte, ccw, ccw_of, chained, ChainOut}
-use Rattle.chan_walk.proofs.Names.{chains_data, false, Fields, inl, inr, is_part, is_transfer}
-use Rattle.chan_walk.proofs.Names.{bytes_held, IsSameIn, IsGuarded, IsReachable, IsVerdict, Job}
-use Rattle.chan_walk.proofs.Names.{kind_of, ChainLeads, length, Outward, Place, refl, rules}
-use Rattle.chan_walk.proofs.Names.{storage_of, straight_to, subst, sym, transferred_to, true, Yes}
-use Rattle.chan_walk.proofs.Names.{ℕ, ◌+◌, ◌∙◌, ◌≡◌}
-use Rattle.chan_walk.specs.VerdictBytes.{IsChained, at_once, further, IsVerdictByte, SafeSinceAsked}
-use Rattle.chan_walk.specs.VerdictBytes.{with_storage, YesByGuarded, YesStays}
+use Rattle.chan_walk.proofs.Names.{ap, at_once, begins_seek, byte, bytes_held, ccw, ccw_of, chained, ChainLeads, ChainOut, chains_data, false, Fields, further, inl, inr, is_part, is_transfer, IsChained, IsGuarded, IsReachable, IsSameIn, IsVerdict, IsVerdictByte, Job, kind_of, length, Outward, Place, refl, rules, storage_of, straight_to, subst, sym, transferred_to, true, with_storage, Yes, ℕ, ◌+◌, ◌∙◌, ◌≡◌}
+use Rattle.chan_walk.specs.VerdictBytes.{SafeSinceAsked, YesByGuarded, YesStays}
 use Rattle.chan_walk.proofs.Theory.Chains.{part_is_no_transfer}
 use Rattle.chan_walk.proofs.Algorithms.VerdictBytes.{carries_at, same_verdict}
 use Rattle.chan_walk.proofs.Machine.Exact.{sparing_less}

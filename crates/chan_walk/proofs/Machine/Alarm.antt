@@ -1,26 +1,8 @@
 -- No false alarm: from each reason to a run that shows it.
-use Rattle.chan_walk.proofs.Names.{allows, and_parts, ap, argument, arith, At, begins_recalibrate}
-use Rattle.chan_walk.proofs.Names.{begins_seek, begins_set_mask, byte, ccw_of, program_check}
-use Rattle.chan_walk.proofs.Names.{checked, covered, Ended, ends, Event, extents_of, false}
-use Rattle.chan_walk.proofs.Names.{fetch_of, Fields, goes_out, has_cylinder, HasArgument, HasFault}
-use Rattle.chan_walk.proofs.Names.{home, inhibits, inl, inr, is_at_least, has_count, is_fresh}
-use Rattle.chan_walk.proofs.Names.{is_known, is_none, is_refused, is_transfer, IsArgumentByte}
-use Rattle.chan_walk.proofs.Names.{IsCcwByte, IsChain, IsClear, IsReachable, IsRun, Job, kind_of}
-use Rattle.chan_walk.proofs.Names.{length, List, Moment, None, not, Offends, Option, Outward, Place}
-use Rattle.chan_walk.proofs.Names.{Reason, refl, rules, SeekOutside, Some, Stage, Step, storage_of}
-use Rattle.chan_walk.proofs.Names.{store_of, stores, StoresOver, subst, sym, table_of_every_ccw}
-use Rattle.chan_walk.proofs.Names.{table_of_non_transfer, table_of_own, TakesArgumentByte, true}
-use Rattle.chan_walk.proofs.Names.{UsesIn, WeakensMask, ℕ, [], ◌&&◌, ◌+◌, ◌<◌, ◌∷◌, ◌≡◌, ◌⊎◌}
-use Rattle.std.proofs.lemmas.Bool.{or_cases, not-true, ltb-true}
-use Rattle.std.proofs.lemmas.List.FromFn.{length-map-range_with_len}
-use Rattle.chan_walk.specs.declared.reason.Reason.TheVariants.{StoreNotLent, FetchNotLent}
-use Rattle.chan_walk.specs.declared.reason.Reason.TheVariants.{ShortSeek}
-use Rattle.chan_walk.specs.Alarm.{IsProper, first_cylinder, ShowsInStep, ShowsProgramCheck}
-use Rattle.chan_walk.specs.Alarm.{ChangesUsed, ShowsReason, EachPathShows, NoFalseAlarm}
-use Rattle.chan_walk.specs.Fault.{fetches}
+use Rattle.chan_walk.proofs.Names.{[], allows, and_parts, ap, argument, arith, At, begins_recalibrate, begins_seek, begins_set_mask, byte, ccw_of, ChangesUsed, checked, covered, Ended, ends, Event, extents_of, false, fetch_of, fetches, FetchNotLent, Fields, first_cylinder, goes_out, has_count, has_cylinder, HasArgument, HasFault, home, inhibits, inl, inr, is_at_least, is_fresh, is_known, is_none, is_refused, is_transfer, IsArgumentByte, IsCcwByte, IsChain, IsClear, IsProper, IsReachable, IsRun, Job, kind_of, length, length-map-range_with_len, List, Moment, NoFalseAlarm, None, not, not-true, Offends, Option, or_cases, Outward, Place, program_check, Reason, refl, rules, SeekOutside, ShortSeek, ShowsInStep, ShowsReason, Some, Stage, Step, storage_of, store_of, StoreNotLent, stores, StoresOver, subst, sym, table_of_every_ccw, table_of_non_transfer, table_of_own, TakesArgumentByte, true, unknown, UsesIn, UsesInArgument, UsesInCcw, WeakensMask, ℕ, ◌&&◌, ◌+◌, ◌<◌, ◌∷◌, ◌≡◌, ◌⊎◌}
+use Rattle.std.proofs.lemmas.Bool.{ltb-true}
+use Rattle.chan_walk.specs.Alarm.{ShowsProgramCheck, EachPathShows}
 use Rattle.chan_walk.specs.Guarded.{IsSeekByte, IsMaskByte}
-use Rattle.chan_walk.specs.Machine.{unknown}
-use Rattle.chan_walk.specs.Runs.{UsesInCcw, UsesInArgument}
 use Rattle.chan_walk.proofs.Theory.Areas.{uncovered, home_refused}
 use Rattle.chan_walk.proofs.Theory.Chains.{part_is_no_transfer, chain_begins_with_part}
 use Rattle.chan_walk.proofs.Machine.Changed.{rewrite}
@@ -31,8 +13,7 @@ use Rattle.chan_walk.proofs.Theory.Faults.{clear_check, clear_good, then_true}
 use Rattle.chan_walk.proofs.Machine.Gathering.{begin}
 use Rattle.chan_walk.proofs.Machine.Operations.{moment, Finished, finish, stop, ready_fresh}
 use Rattle.chan_walk.proofs.Machine.Paths.{few_at, Runs, path_runs}
-use Rattle.chan_walk.proofs.Machine.Quiet.{full_count, bytes_at, there, Known, Carried, seek_at}
-use Rattle.chan_walk.proofs.Machine.Quiet.{carry_out}
+use Rattle.chan_walk.proofs.Machine.Quiet.{full_count, bytes_at, there, Known, Carried, seek_at, carry_out}
 use Rattle.chan_walk.proofs.Theory.Granting.{stores_parts}
 
 show_next : {j : Job} {y : ℕ} {p : Place} {ps : List Place} {es : List Event} {t : List ℕ} {st : Stage} {P : Moment → Type 0} (r : Runs j y p ps)

@@ -1,15 +1,6 @@
 -- What the laws say of a job's verdict.
-use Rattle.chan_walk.proofs.Names.{MarksAgree, BTreeMap, IsVerdict, Job, List, nat_cmp}
-use Rattle.chan_walk.proofs.Names.{places_of_looks, refl, Seen, subst, Yes, ℕ, ◌≡◌}
-use Rattle.chan_walk.specs.declared.verdict.Verdict.{Verdict}
-use Rattle.chan_walk.specs.declared.verdict.Verdict.TheVariants.{No}
-use Rattle.chan_walk.specs.Alarm.{IsProper, NoFalseAlarm}
+use Rattle.chan_walk.proofs.Names.{BTreeMap, HasFound, HasMask, IsProper, IsVerdict, Job, List, ListsMarks, MarksAgree, nat_cmp, No, NoFalseAlarm, NoIsHarm, places_of, places_of_looks, refl, Seen, subst, Verdict, Yes, YesIsSafe, YesIsSafeAmong, ℕ, ◌≡◌}
 use Rattle.chan_walk.specs.Answers.{HasAtMost, HasWitness, IsSound, IsSoundAmong}
-use Rattle.chan_walk.specs.Harm.{NoIsHarm}
-use Rattle.chan_walk.specs.Headline.{YesIsSafe, YesIsSafeAmong}
-use Rattle.chan_walk.specs.Job.{HasMask}
-use Rattle.chan_walk.specs.Marks.{ListsMarks, places_of}
-use Rattle.chan_walk.specs.Walk.{HasFound}
 use Rattle.chan_walk.proofs.Algorithms.InOrder.{listed_few, listed_reachable}
 use Rattle.std.specs.BTreeMap as tree
 

@@ -1,18 +1,11 @@
 -- A step that changes each byte of the range that it stores over.
-use Rattle.chan_walk.proofs.Names.{AllByRecursion, ap, arith, begins_recalibrate, begins_set_mask}
-use Rattle.chan_walk.proofs.Names.{byte, carried, ccw_of, Ended, ends, Event, Gathered, Has, inl}
-use Rattle.chan_walk.proofs.Names.{inr, IsClear, Job, length, List, map, MovesData, Place}
-use Rattle.chan_walk.proofs.Names.{range_with_len, refl, rules, Step, storage_of, stored, stores}
-use Rattle.chan_walk.proofs.Names.{subst, suc, sym, true, under_way, zero, ℕ, [], ◌++◌, ◌+◌, ◌<◌}
-use Rattle.chan_walk.proofs.Names.{◌∙◌, ◌∷◌, ◌≡◌, ◌≤◌, ◌⊎◌}
-use Rattle.std.proofs.lemmas.List.FromFn.{length-map-range_with_len}
-use Rattle.chan_walk.specs.Machine.{Store, IsStored, command_event}
+use Rattle.chan_walk.proofs.Names.{[], AllByRecursion, ap, arith, begins_recalibrate, begins_set_mask, byte, carried, ccw_of, command_event, Ended, ends, Event, Gathered, Has, inl, inr, IsClear, Job, length, length-map-range_with_len, List, map, MovesData, Place, range_with_len, refl, rules, Step, storage_of, Store, stored, stores, subst, suc, sym, true, under_way, zero, ℕ, ◌++◌, ◌+◌, ◌<◌, ◌∙◌, ◌∷◌, ◌≡◌, ◌≤◌, ◌⊎◌}
+use Rattle.chan_walk.specs.Machine.{IsStored}
 use Rattle.chan_walk.proofs.Theory.Checks.{passed, data_fits}
 use Rattle.chan_walk.proofs.Theory.Faults.{clear_check, clear_good}
 use Rattle.chan_walk.proofs.Theory.Lists.{byte-map-range}
 use Rattle.chan_walk.proofs.Machine.Events.{in_six}
-use Rattle.chan_walk.proofs.Machine.Quiet.{full_count, inward_from, IsFew, kind_at, bytes_at}
-use Rattle.chan_walk.proofs.Machine.Quiet.{can_home, can_mask, seek_at}
+use Rattle.chan_walk.proofs.Machine.Quiet.{full_count, inward_from, IsFew, kind_at, bytes_at, can_home, can_mask, seek_at}
 use Rattle.chan_walk.proofs.Theory.Granting.{stores_parts}
 
 abbrev changed : ℕ → ℕ

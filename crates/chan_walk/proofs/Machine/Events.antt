@@ -1,8 +1,5 @@
 -- What the events of a step show, part by part.
-use Rattle.chan_walk.proofs.Names.{Command, Event, Has, inl, inr, List, rules, Seek, UsesIn, ℕ, []}
-use Rattle.chan_walk.proofs.Names.{◌++◌, ◌∷◌, ◌⊎◌}
-use Rattle.chan_walk.specs.Alarm.{HasNoWholeArgument}
-use Rattle.chan_walk.specs.Machine.{Store, Fetch, Gather, SetMask}
+use Rattle.chan_walk.proofs.Names.{[], Command, Event, Fetch, Gather, Has, HasNoWholeArgument, inl, inr, List, rules, Seek, SetMask, Store, UsesIn, ℕ, ◌++◌, ◌∷◌, ◌⊎◌}
 use Rattle.chan_walk.proofs.Theory.Lists.{has_cases, has_left, has_right}
 
 pub uses_cases : (xs ys : List Event) (b : ℕ) → UsesIn (xs ++ ys) b → UsesIn xs b ⊎ UsesIn ys b

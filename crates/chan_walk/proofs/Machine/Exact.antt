@@ -1,12 +1,6 @@
 -- Exactness: a job that is safe in every run and steady has the verdict yes.
-use Rattle.chan_walk.proofs.Names.{inl, inr}
-use Rattle.chan_walk.proofs.Names.{IsGuarded, Job, List, Moment}
-use Rattle.chan_walk.proofs.Names.{ℕ, [], ◌∷◌}
-use Rattle.chan_walk.specs.Alarm.{IsProper}
-use Rattle.chan_walk.specs.Alarm.{SafeIsYes, IsUsed, IsUsedIn, GuardedIsUsed, StaysSafe}
-use Rattle.chan_walk.specs.Alarm.{HeadlineAloneIsEnough}
-use Rattle.chan_walk.specs.Headline.{IsSpared}
-use Rattle.chan_walk.specs.Runs.{IsRunAmong}
+use Rattle.chan_walk.proofs.Names.{[], inl, inr, IsGuarded, IsProper, IsRunAmong, IsSpared, Job, List, Moment, ℕ, ◌∷◌}
+use Rattle.chan_walk.specs.Alarm.{SafeIsYes, IsUsed, IsUsedIn, GuardedIsUsed, StaysSafe, HeadlineAloneIsEnough}
 use Rattle.chan_walk.proofs.Machine.Alarm.{shows, ccw_used, argument_used}
 use Rattle.chan_walk.proofs.Machine.Harm.{harmless, shown_harms}
 use Rattle.chan_walk.proofs.Machine.Yes.{each_ok, used_guarded, yes_is_safe_among, alone}

@@ -1,15 +1,5 @@
 -- A seek that takes its argument while its chain runs.
-use Rattle.chan_walk.proofs.Names.{ap, append-nil, append_assoc, argument, argument_addresses}
-use Rattle.chan_walk.proofs.Names.{arith, both_ways, byte, ccw, ChainOut, chains_data, false}
-use Rattle.chan_walk.proofs.Names.{Fields, Has, inl, inr, is_part, is_transfer, IsChain, IsGathered}
-use Rattle.chan_walk.proofs.Names.{ChainLeads, length, length-append, length-map, List, map, min}
-use Rattle.chan_walk.proofs.Names.{Place, range_with_len, refl, rules, straight_to, subst, sym}
-use Rattle.chan_walk.proofs.Names.{take, taken, transferred_to, true, with_taken, ℕ, [], ◌++◌, ◌+◌}
-use Rattle.chan_walk.proofs.Names.{◌-◌, ◌<◌, ◌∙◌, ◌∷◌, ◌≡◌, ◌≤◌}
-use Rattle.std.proofs.lemmas.List.{map-append}
-use Rattle.std.proofs.lemmas.List.FromFn.{length-range_with_len}
-use Rattle.chan_walk.specs.Argument.{data_addresses, joined}
-use Rattle.chan_walk.specs.Headline.{ChainComesTo}
+use Rattle.chan_walk.proofs.Names.{[], ap, append-nil, append_assoc, argument, argument_addresses, arith, both_ways, byte, ccw, ChainComesTo, ChainLeads, ChainOut, chains_data, data_addresses, false, Fields, Has, inl, inr, is_part, is_transfer, IsChain, IsGathered, joined, length, length-append, length-map, length-range_with_len, List, map, map-append, min, Place, range_with_len, refl, rules, straight_to, subst, sym, take, taken, transferred_to, true, with_taken, ℕ, ◌++◌, ◌+◌, ◌-◌, ◌<◌, ◌∙◌, ◌∷◌, ◌≡◌, ◌≤◌}
 use Rattle.chan_walk.proofs.Theory.Chains.{part_is_no_transfer, chain_begins_with_part, chain_tail}
 use Rattle.chan_walk.proofs.Theory.Lists.{has_left, has_right, range_split, take_front}
 

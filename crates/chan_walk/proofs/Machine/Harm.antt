@@ -1,22 +1,8 @@
 -- What a witness shows does harm, and harm is the negation of what a yes promises.
-use Rattle.chan_walk.proofs.Names.{AllByRecursion, At, Bool, both_ways, Checked, Command, Ended}
-use Rattle.chan_walk.proofs.Names.{Event, false, Has, inl, inr, Job, List, Moment, None, Place}
-use Rattle.chan_walk.proofs.Names.{Reason, refl, Seek, SeekOutside, Some, Stage, subst}
-use Rattle.chan_walk.proofs.Names.{true, WeakensMask, ℕ, [], ◌++◌, ◌∷◌, ◌≡◌, ◌⊎◌}
+use Rattle.chan_walk.proofs.Names.{[], AllByRecursion, At, BadFormat, Bool, both_ways, ChangesArgument, ChangesCcw, ChangesUsed, Checked, Command, DataOutside, Ended, Event, false, Fetch, FetchNotLent, Gather, Has, HoldsInitialByte, Inhibited, inl, inr, InvalidCode, IsSafeEvent, IsSafeMoment, Job, List, MeetsNoProgramCheck, Misaligned, Moment, NoIsHarm, None, NotInTable, OutsideStorage, Place, Reason, refl, Seek, SeekOutside, SetMask, ShortSeek, ShowsInOperation, ShowsInStep, ShowsReason, Some, Stage, Store, StoreNotLent, subst, TransferNotAllowed, true, Uses, UsesInArgument, UsesInCcw, WeakensMask, ZeroCount, ℕ, ◌++◌, ◌∷◌, ◌≡◌, ◌⊎◌}
 use Rattle.std.proofs.lemmas.Bool.{cases_eq}
-use Rattle.chan_walk.specs.declared.reason.Reason.TheVariants.{Misaligned, OutsideStorage}
-use Rattle.chan_walk.specs.declared.reason.Reason.TheVariants.{TransferNotAllowed, InvalidCode}
-use Rattle.chan_walk.specs.declared.reason.Reason.TheVariants.{BadFormat, ZeroCount, DataOutside}
-use Rattle.chan_walk.specs.declared.reason.Reason.TheVariants.{NotInTable, Inhibited, StoreNotLent}
-use Rattle.chan_walk.specs.declared.reason.Reason.TheVariants.{FetchNotLent, ShortSeek, ChangesCcw}
-use Rattle.chan_walk.specs.declared.reason.Reason.TheVariants.{ChangesArgument}
-use Rattle.chan_walk.specs.Alarm.{ChangesUsed, ShowsInOperation, ShowsInStep, ShowsReason}
-use Rattle.chan_walk.specs.Harm.{BreaksHeadline, BreaksAt, HarmlessIsSafe, IsUnsteady}
-use Rattle.chan_walk.specs.Harm.{HasUnsafeEvent, IsHarm, IsStopped, MayHarm, NoIsHarm, ShownBreaks}
-use Rattle.chan_walk.specs.Headline.{HoldsInitialByte, IsSafe, IsSafeEvent, IsSafeMoment, IsSteady}
-use Rattle.chan_walk.specs.Headline.{MeetsNoProgramCheck}
-use Rattle.chan_walk.specs.Machine.{Fetch, Gather, SetMask, Store}
-use Rattle.chan_walk.specs.Runs.{Uses, UsesInArgument, UsesInCcw}
+use Rattle.chan_walk.specs.Harm.{BreaksHeadline, BreaksAt, HarmlessIsSafe, IsUnsteady, HasUnsafeEvent, IsHarm, IsStopped, MayHarm, ShownBreaks}
+use Rattle.chan_walk.specs.Headline.{IsSafe, IsSteady}
 use Rattle.chan_walk.proofs.Machine.Alarm.{no_false_alarm}
 
 -- ---- each reason breaks a promise

@@ -1,29 +1,12 @@
 -- The operation of a seek, carried on to its end: to a whole argument, or to what stops it before.
-use Rattle.chan_walk.proofs.Names.{AllByRecursion, and_parts, ap, argument, argument_addresses}
-use Rattle.chan_walk.proofs.Names.{arith, At, begins_recalibrate, begins_seek, cases_Bool, cases_lt}
-use Rattle.chan_walk.proofs.Names.{ccw, ccw_of, chained, ChainOut, chains_data, program_check}
-use Rattle.chan_walk.proofs.Names.{Checked, checked, Continues, Ended, ends, Event, false, Fields}
-use Rattle.chan_walk.proofs.Names.{Gathered, Has, inl, inr, is_fresh, is_part, is_transfer, IsChain}
-use Rattle.chan_walk.proofs.Names.{IsGathered, IsRun, Job, ChainLeads, length, List, min, Moment}
-use Rattle.chan_walk.proofs.Names.{None, Option, Outward, Place, Reason, refl, rules, Seek, Some}
-use Rattle.chan_walk.proofs.Names.{Stage, Step, storage_of, straight_to, subst, suc, sym, taken}
-use Rattle.chan_walk.proofs.Names.{transferred, transferred_to, true, under_way, UsesIn, with_taken}
-use Rattle.chan_walk.proofs.Names.{zero, ℕ, [], ◌++◌, ◌+◌, ◌-◌, ◌<◌, ◌∷◌, ◌≡◌, ◌≤◌, ◌⊎◌}
-use Rattle.chan_walk.specs.Alarm.{AreBytes, IsQuietEvent, IsQuietMoment, ArePlaces}
-use Rattle.chan_walk.specs.Alarm.{HasNoWholeArgument, StaysInOperation, ShowsInOperation}
-use Rattle.chan_walk.specs.Headline.{ChainComesTo}
-use Rattle.chan_walk.specs.Machine.{on_data, on_short}
-use Rattle.chan_walk.specs.Runs.{UsesInArgument}
-use Rattle.chan_walk.proofs.Theory.Chains.{part_is_no_transfer, part_counts, chain_begins_with_part}
-use Rattle.chan_walk.proofs.Theory.Chains.{chain_cons}
-use Rattle.chan_walk.proofs.Theory.Checks.{check_stands, part_passes, passed_is_part}
-use Rattle.chan_walk.proofs.Theory.Checks.{no_second_transfer, transfer_passes}
+use Rattle.chan_walk.proofs.Names.{[], AllByRecursion, and_parts, ap, AreBytes, ArePlaces, argument, argument_addresses, arith, At, begins_recalibrate, begins_seek, cases_Bool, cases_lt, ccw, ccw_of, ChainComesTo, chained, ChainLeads, ChainOut, chains_data, Checked, checked, Continues, Ended, ends, Event, false, Fields, Gathered, Has, HasNoWholeArgument, inl, inr, is_fresh, is_part, is_transfer, IsChain, IsGathered, IsQuietEvent, IsQuietMoment, IsRun, Job, length, List, min, Moment, None, on_data, on_short, Option, Outward, Place, program_check, Reason, refl, rules, Seek, ShowsInOperation, Some, Stage, Step, storage_of, straight_to, subst, suc, sym, taken, transferred, transferred_to, true, under_way, UsesIn, UsesInArgument, with_taken, zero, ℕ, ◌++◌, ◌+◌, ◌-◌, ◌<◌, ◌∷◌, ◌≡◌, ◌≤◌, ◌⊎◌}
+use Rattle.chan_walk.specs.Alarm.{StaysInOperation}
+use Rattle.chan_walk.proofs.Theory.Chains.{part_is_no_transfer, part_counts, chain_begins_with_part, chain_cons}
+use Rattle.chan_walk.proofs.Theory.Checks.{check_stands, part_passes, passed_is_part, no_second_transfer, transfer_passes}
 use Rattle.chan_walk.proofs.Theory.Commands.{seek_no_recalibrate}
 use Rattle.chan_walk.proofs.Machine.Gathering.{Advance, advance, at_next, transfer_on}
 use Rattle.chan_walk.proofs.Theory.Lists.{has_cases}
-use Rattle.chan_walk.proofs.Machine.Quiet.{full_count, IsFew, length-with_taken, kind_at, bytes_at}
-use Rattle.chan_walk.proofs.Machine.Quiet.{Known, Left, UsesTaken, CanSeek, seek_at, Carried}
-use Rattle.chan_walk.proofs.Machine.Quiet.{carry_out}
+use Rattle.chan_walk.proofs.Machine.Quiet.{full_count, IsFew, length-with_taken, kind_at, bytes_at, Known, Left, UsesTaken, CanSeek, seek_at, Carried, carry_out}
 use Rattle.chan_walk.proofs.Machine.Yes.{fresh_out}
 
 module _ (j : Job) (bytes : AreBytes (storage_of j)) where

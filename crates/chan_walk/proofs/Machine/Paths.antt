@@ -1,27 +1,12 @@
 -- Each path is the places of a run that changes nothing.
-use Rattle.chan_walk.proofs.Names.{AllByRecursion, and_from, ap, arith, At, begins_seek, Bool}
-use Rattle.chan_walk.proofs.Names.{both_ways, byte, ccw_of, chained, ChainOut, chains_data}
-use Rattle.chan_walk.proofs.Names.{Continues, Event, extents_of, false, Gathered, has_cylinder}
-use Rattle.chan_walk.proofs.Names.{HasArgument, if◌then◌else◌, is_none, is_transfer, IsClear}
-use Rattle.chan_walk.proofs.Names.{IsGathered, IsPath, IsRun, Job, Kind, kind_of, length}
-use Rattle.chan_walk.proofs.Names.{length-map, List, Moment, None, Option, Outward, Place, refl}
-use Rattle.chan_walk.proofs.Names.{rules, Some, Step, storage_of, straight_to, subst, sym}
-use Rattle.chan_walk.proofs.Names.{transferred, transferred_to, true, under_way, ℕ, [], ◌+◌, ◌<◌}
-use Rattle.chan_walk.proofs.Names.{◌∙◌, ◌∷◌, ◌≡◌, ◌≤◌}
-use Rattle.std.proofs.lemmas.Bool.{or_left, le-leb}
-use Rattle.ckd_core.specs.declared.command.Kind.TheVariants.{Idle, Inward, Search}
-use Rattle.ckd_core.specs.Extents.{AreExtents}
-use Rattle.chan_walk.specs.declared.place.Entry.TheVariants.{Fresh}
-use Rattle.chan_walk.specs.Alarm.{AreBytes, first_cylinder, IsQuietEvent, IsQuietMoment, ArePlaces}
+use Rattle.chan_walk.proofs.Names.{[], AllByRecursion, and_from, ap, AreBytes, AreExtents, ArePlaces, arith, At, begins_seek, Bool, both_ways, byte, ccw_of, chained, ChainOut, chains_data, Continues, Event, extents_of, false, first_cylinder, Fresh, Gathered, has_cylinder, HasArgument, Idle, if◌then◌else◌, Inward, is_none, is_transfer, IsClear, IsGathered, IsPath, IsQuietEvent, IsQuietMoment, IsRun, Job, Kind, kind_of, length, length-map, List, Moment, None, on_command, on_data, on_skip, Option, or_left, Outward, Place, refl, rules, Search, Some, Step, storage_of, straight_to, subst, sym, transferred, transferred_to, true, under_way, ℕ, ◌+◌, ◌<◌, ◌∙◌, ◌∷◌, ◌≡◌, ◌≤◌}
+use Rattle.std.proofs.lemmas.Bool.{le-leb}
 use Rattle.chan_walk.specs.Alarm.{EachPathIsRun}
-use Rattle.chan_walk.specs.Machine.{on_data, on_command, on_skip}
 use Rattle.chan_walk.proofs.Theory.Faults.{IsGood, clear_check, clear_good}
-use Rattle.chan_walk.proofs.Theory.Follows.{Follows, by_transfer, by_data, by_command, by_skip}
-use Rattle.chan_walk.proofs.Theory.Follows.{follows}
+use Rattle.chan_walk.proofs.Theory.Follows.{Follows, by_transfer, by_data, by_command, by_skip, follows}
 use Rattle.chan_walk.proofs.Machine.Gathering.{Advance, advance, transfer_on, begin}
 use Rattle.chan_walk.proofs.Machine.Invariant.{chained_out}
-use Rattle.chan_walk.proofs.Machine.Quiet.{full_count, IsFew, kind_at, bytes_at, Left, seek_at}
-use Rattle.chan_walk.proofs.Machine.Quiet.{carry_out}
+use Rattle.chan_walk.proofs.Machine.Quiet.{full_count, IsFew, kind_at, bytes_at, Left, seek_at, carry_out}
 use Rattle.chan_walk.proofs.Machine.Yes.{fresh_out}
 
 first_inside : (es : List (ℕ × ℕ)) → AreExtents es → has_cylinder es (first_cylinder es) ≡ true

@@ -1,20 +1,5 @@
 -- A step that carries a CCW out with all its bytes, stores only what was there, and leaves the arm where it stands.
-use Rattle.chan_walk.proofs.Names.{AllByRecursion, ap, arith, begins_recalibrate, begins_set_mask}
-use Rattle.chan_walk.proofs.Names.{Bool, both_ways, byte, carried, cases_Bool, cases_lt, ccw_of}
-use Rattle.chan_walk.proofs.Names.{program_check, Command, Continues, Event, false, Fields}
-use Rattle.chan_walk.proofs.Names.{Gathered, goes_in, goes_out, Has, home, if◌then◌else◌, inl, inr}
-use Rattle.chan_walk.proofs.Names.{is_fresh, is_known, is_transfer, Job, Kind, kind_of, length}
-use Rattle.chan_walk.proofs.Names.{length-append, length-map, List, map, min, MovesData, None}
-use Rattle.chan_walk.proofs.Names.{Outward, Place, range_with_len, refl, rules, Seek, skips, Some}
-use Rattle.chan_walk.proofs.Names.{Stage, Step, storage_of, stored, suc, sym, taken, true}
-use Rattle.chan_walk.proofs.Names.{under_way, UsesIn, with_taken, zero, ℕ, [], ◌++◌, ◌+◌, ◌-◌, ◌<◌}
-use Rattle.chan_walk.proofs.Names.{◌∙◌, ◌∷◌, ◌≡◌, ◌≤◌, ◌⊎◌}
-use Rattle.std.proofs.lemmas.List.FromFn.{length-range_with_len, length-map-range_with_len}
-use Rattle.ckd_core.specs.declared.command.Kind.TheVariants.{Idle, Inward, Search}
-use Rattle.chan_walk.specs.Alarm.{AreBytes, IsQuietEvent, HasNoWholeArgument}
-use Rattle.chan_walk.specs.Machine.{Store, Fetch, Gather, SetMask, idle, skipped, written, searched}
-use Rattle.chan_walk.specs.Machine.{Seeks, none, part, stays, Recalibration, no_home, home_stays}
-use Rattle.chan_walk.specs.Machine.{SetsMask, no_mask, no_byte, mask_stays, command_event}
+use Rattle.chan_walk.proofs.Names.{[], AllByRecursion, ap, AreBytes, arith, begins_recalibrate, begins_set_mask, Bool, both_ways, byte, carried, cases_Bool, cases_lt, ccw_of, Command, command_event, Continues, Event, false, Fetch, Fields, Gather, Gathered, goes_in, goes_out, Has, HasNoWholeArgument, home, home_stays, Idle, idle, if◌then◌else◌, inl, inr, Inward, is_fresh, is_known, is_transfer, IsQuietEvent, Job, Kind, kind_of, length, length-append, length-map, length-map-range_with_len, length-range_with_len, List, map, mask_stays, min, MovesData, no_byte, no_home, no_mask, None, none, Outward, part, Place, program_check, range_with_len, Recalibration, refl, rules, Search, searched, Seek, Seeks, SetMask, SetsMask, skipped, skips, Some, Stage, stays, Step, storage_of, Store, stored, suc, sym, taken, true, under_way, UsesIn, with_taken, written, zero, ℕ, ◌++◌, ◌+◌, ◌-◌, ◌<◌, ◌∙◌, ◌∷◌, ◌≡◌, ◌≤◌, ◌⊎◌}
 use Rattle.chan_walk.proofs.Machine.Events.{uses_left, uses_right, no_seek_append, of_six, in_six}
 use Rattle.chan_walk.proofs.Theory.Lists.{all_append, byte-map-range}
 

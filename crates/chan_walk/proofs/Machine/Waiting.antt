@@ -1,10 +1,6 @@
 -- What others do while a program waits leaves all that a yes rests on.
-use Rattle.std.proofs.Common.{◌≡◌, true, sym, ◌∙◌, subst}
-use Rattle.ckd_core.specs.Extents.{has_cylinder}
-use Rattle.chan_walk.specs.declared.job.Job.{Job}
-use Rattle.chan_walk.specs.Guarded.{IsGuarded}
-use Rattle.chan_walk.specs.Job.{extents_of}
-use Rattle.chan_walk.specs.Runs.{Moment, Waits, IsSameIn}
+use Rattle.chan_walk.proofs.Names.{extents_of, has_cylinder, IsGuarded, IsSameIn, Job, Moment, subst, sym, true, ◌∙◌, ◌≡◌}
+use Rattle.chan_walk.specs.Runs.{Waits}
 use Rattle.chan_walk.proofs.Machine.Invariant.{Invariant, IsKept, IsStrict}
 
 -- a program waits, and what is guarded stays

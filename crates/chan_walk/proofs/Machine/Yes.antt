@@ -1,31 +1,15 @@
 -- Where the verdict is yes: guarded bytes never change, every place is reachable, every run is safe and the job is steady.
-use Rattle.chan_walk.proofs.Names.{AllByRecursion, allows, ap, At, begins_seek, Bool, both_ways}
-use Rattle.chan_walk.proofs.Names.{byte, carried, ccw, ccw_of, program_check, program_check_of}
-use Rattle.chan_walk.proofs.Names.{Checked, checked, Ended, Event, false, Fields, Gathered}
-use Rattle.chan_walk.proofs.Names.{HasArgument, if◌then◌else◌, inl, inr, is_at_least, is_known}
-use Rattle.chan_walk.proofs.Names.{is_none, is_refused, is_transfer, IsClear, IsGuarded}
-use Rattle.chan_walk.proofs.Names.{IsReachable, IsRun, IsSameIn, IsVerdict, Job, kind_of, length}
-use Rattle.chan_walk.proofs.Names.{List, Moment, None, Option, Outward, Place, refl, rules, Some}
-use Rattle.chan_walk.proofs.Names.{Stage, Step, storage_of, subst, sym, transferred, transferred_to}
-use Rattle.chan_walk.proofs.Names.{true, UsesIn, Yes, ℕ, [], ◌∙◌, ◌∷◌, ◌≡◌, ◌⊎◌}
-use Rattle.std.proofs.lemmas.Bool.{not-false}
-use Rattle.chan_walk.specs.declared.reason.Reason.TheVariants.{ChangesCcw, ChangesArgument}
-use Rattle.chan_walk.specs.Headline.{MeetsNoProgramCheck, IsSafeMoment, IsSafeEvent}
-use Rattle.chan_walk.specs.Headline.{HoldsInitialByte, YesIsSafe, YesIsSafeAmong, IsSpared}
-use Rattle.chan_walk.specs.Headline.{IsAtReachable, GathersPart, GuardedStays, StaysReachable}
-use Rattle.chan_walk.specs.Headline.{GathersArguments}
-use Rattle.chan_walk.specs.Job.{HasMask}
-use Rattle.chan_walk.specs.Machine.{unknown, StepFrom}
-use Rattle.chan_walk.specs.Runs.{IsStart, Steps, IsRunAmong, UsesAt, UsesInCcw, UsesInArgument}
-use Rattle.chan_walk.specs.Runs.{Uses}
+use Rattle.chan_walk.proofs.Names.{[], AllByRecursion, allows, ap, At, begins_seek, Bool, both_ways, byte, carried, ccw, ccw_of, ChangesArgument, ChangesCcw, Checked, checked, Ended, Event, false, Fields, Gathered, HasArgument, HasMask, HoldsInitialByte, if◌then◌else◌, inl, inr, is_at_least, is_known, is_none, is_refused, is_transfer, IsClear, IsGuarded, IsReachable, IsRun, IsRunAmong, IsSafeEvent, IsSafeMoment, IsSameIn, IsSpared, IsVerdict, Job, kind_of, length, List, MeetsNoProgramCheck, Moment, None, not-false, Option, Outward, Place, program_check, program_check_of, refl, rules, Some, Stage, Step, storage_of, subst, sym, transferred, transferred_to, true, unknown, Uses, UsesIn, UsesInArgument, UsesInCcw, Yes, YesIsSafe, YesIsSafeAmong, ℕ, ◌∙◌, ◌∷◌, ◌≡◌, ◌⊎◌}
+use Rattle.chan_walk.specs.Headline.{IsAtReachable, GathersPart, GuardedStays, StaysReachable, GathersArguments}
+use Rattle.chan_walk.specs.Machine.{StepFrom}
+use Rattle.chan_walk.specs.Runs.{IsStart, Steps, UsesAt}
 use Rattle.chan_walk.specs.Verdict.{MayStoreOver}
 use Rattle.chan_walk.proofs.Theory.Checks.{check_stands}
 use Rattle.chan_walk.proofs.Theory.Commands.{seek_is_outward}
 use Rattle.chan_walk.proofs.Theory.Faults.{IsGood, clear_check, clear_good, yes_clear}
 use Rattle.chan_walk.proofs.Theory.Follows.{Follows, by_transfer, succeeds}
 use Rattle.chan_walk.proofs.Machine.Gathering.{advance, transfer_on, begin}
-use Rattle.chan_walk.proofs.Machine.Invariant.{Under, IsKept, Same, Invariant, Coming, Comes, Here}
-use Rattle.chan_walk.proofs.Machine.Invariant.{Stepped, carried_ok}
+use Rattle.chan_walk.proofs.Machine.Invariant.{Under, IsKept, Same, Invariant, Coming, Comes, Here, Stepped, carried_ok}
 use Rattle.chan_walk.proofs.Machine.Storing.{StoresAt, step_only}
 use Rattle.chan_walk.proofs.Machine.Waiting.{WaitsSpared, waits_kept}
 use Rattle.chan_walk.proofs.Theory.Lists.{all_map}

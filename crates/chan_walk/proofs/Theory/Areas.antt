@@ -1,12 +1,7 @@
 -- What covered ranges and allowed arguments say of each byte and cylinder.
-use Rattle.chan_walk.proofs.Names.{allows, and_from, and_parts, Area, arith, cases_lt, covered}
-use Rattle.chan_walk.proofs.Names.{extents_of, false, has_cylinder, home, Job, lies_in, List, refl}
-use Rattle.chan_walk.proofs.Names.{rules, suc, true, zero, ℕ, ◌+◌, ◌<◌, ◌≡◌, ◌≤◌}
+use Rattle.chan_walk.proofs.Names.{allows, and_from, and_parts, Area, arith, cases_lt, covered, cylinder_of, extents_of, false, has_cylinder, heads, heads_of, home, is_allowed, Job, lies_in, List, refl, rules, suc, true, zero, ℕ, ◌+◌, ◌<◌, ◌≡◌, ◌≤◌}
 use Rattle.std.proofs.lemmas.Bool.{and_cases, lt-ltb}
 use Rattle.ckd_core.specs.declared.device.Device.{Device}
-use Rattle.ckd_core.specs.Track.{is_allowed, cylinder_of}
-use Rattle.ckd_core.specs.Device.{heads_of}
-use Rattle.chan_walk.specs.Job.{heads}
 
 pub covered_at : (areas : List Area) (a n b : ℕ) → covered areas a n ≡ true → a ≤ b → b < a + n → lies_in areas b ≡ true
 covered_at areas a zero b h le lt = absurd (omega arith)

@@ -1,11 +1,5 @@
 -- Chains of CCWs that give the bytes of an argument: there is one or there is none, and there is at most one.
-use Rattle.chan_walk.proofs.Names.{and_from, ap, argument, arith, both_ways, cases_Bool, cases_lt}
-use Rattle.chan_walk.proofs.Names.{ccw, chains_data, false, HasArgument, inl, inr, has_count}
-use Rattle.chan_walk.proofs.Names.{is_part, is_transfer, IsChain, ChainLeads, List, None, Option}
-use Rattle.chan_walk.proofs.Names.{refl, rules, Some, subst, suc, sym, true, zero, ℕ, [], ◌-◌, ◌<◌}
-use Rattle.chan_walk.proofs.Names.{◌∙◌, ◌∷◌, ◌≡◌, ◌≤◌, ◌⊎◌}
-use Rattle.chan_walk.specs.Operand.{onward}
-use Rattle.chan_walk.specs.Argument.{AreLinked, BeginsAt}
+use Rattle.chan_walk.proofs.Names.{[], and_from, ap, AreLinked, argument, arith, BeginsAt, both_ways, cases_Bool, cases_lt, ccw, ChainLeads, chains_data, false, has_count, HasArgument, inl, inr, is_part, is_transfer, IsChain, List, None, onward, Option, refl, rules, Some, subst, suc, sym, true, zero, ℕ, ◌-◌, ◌<◌, ◌∙◌, ◌∷◌, ◌≡◌, ◌≤◌, ◌⊎◌}
 
 pub part_is_no_transfer : (s : List ℕ) (a : ℕ) → is_part s a ≡ true → is_transfer (ccw s a) ≡ false
 unfolding is_part

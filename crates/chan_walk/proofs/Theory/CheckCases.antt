@@ -1,13 +1,7 @@
 -- The program check of a place, case by case.
-use Rattle.chan_walk.proofs.Names.{ccw_at, ccw_at-some, program_check, program_check_of, false}
-use Rattle.chan_walk.proofs.Names.{Fields, first_reason, has_data_in, if◌then◌else◌, is_aligned}
-use Rattle.chan_walk.proofs.Names.{has_count, is_formed, is_inside, is_part, is_transfer, length}
-use Rattle.chan_walk.proofs.Names.{List, None, not, option_or, Place, refl, rules, Some}
-use Rattle.chan_walk.proofs.Names.{table_of_non_transfer, true, ℕ, [], ◌%◌, ◌&&◌, ◌∙◌, ◌∷◌, ◌≡◌}
+use Rattle.chan_walk.proofs.Names.{[], ccw_at, ccw_at-some, false, Fields, first_reason, has_count, has_data_in, if◌then◌else◌, is_aligned, is_formed, is_inside, is_part, is_transfer, length, List, Misaligned, None, not, option_or, OutsideStorage, Place, program_check, program_check_of, refl, rules, Some, table_of_non_transfer, TransferNotAllowed, true, ℕ, ◌%◌, ◌&&◌, ◌∙◌, ◌∷◌, ◌≡◌}
 use Rattle.std.specs.Bool.{then_some}
 use Rattle.ccw_core.proofs.StorageLemmas.{is_aligned-true, is_aligned-false, ccw_at-none}
-use Rattle.chan_walk.specs.declared.reason.Reason.TheVariants.{Misaligned, OutsideStorage}
-use Rattle.chan_walk.specs.declared.reason.Reason.TheVariants.{TransferNotAllowed}
 
 pub check-misaligned : (s : List ℕ) (p : Place) → (p.address % 8 ≡ 0 → ⊥) → program_check s p ≡ Some Misaligned
 unfolding program_check_of

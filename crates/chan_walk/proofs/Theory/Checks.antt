@@ -1,12 +1,5 @@
 -- What it says of a place that it meets a program check, or none.
-use Rattle.chan_walk.proofs.Names.{AllByRecursion, Bool, cases_Bool, ccw, program_check}
-use Rattle.chan_walk.proofs.Names.{program_check_of, cond}
-use Rattle.chan_walk.proofs.Names.{false, Fields, first_reason, has_data_in, if◌then◌else◌}
-use Rattle.chan_walk.proofs.Names.{is_aligned, has_count, is_formed, is_fresh, is_inside, is_part}
-use Rattle.chan_walk.proofs.Names.{is_transfer, leb-true, length, List, None, Option, option_or}
-use Rattle.chan_walk.proofs.Names.{Place, Reason, refl, rules, Some, Stands, table_of_every_ccw}
-use Rattle.chan_walk.proofs.Names.{table_of_non_transfer, true, ℕ, [], ◌+◌, ◌∷◌, ◌≡◌, ◌≤◌, ◌⊎◌}
-use Rattle.chan_walk.specs.declared.reason.Reason.TheVariants.{TransferNotAllowed}
+use Rattle.chan_walk.proofs.Names.{[], AllByRecursion, Bool, cases_Bool, ccw, cond, false, Fields, first_reason, has_count, has_data_in, if◌then◌else◌, is_aligned, is_formed, is_fresh, is_inside, is_part, is_transfer, leb-true, length, List, None, Option, option_or, Place, program_check, program_check_of, Reason, refl, rules, Some, Stands, table_of_every_ccw, table_of_non_transfer, TransferNotAllowed, true, ℕ, ◌+◌, ◌∷◌, ◌≡◌, ◌≤◌, ◌⊎◌}
 
 pub cond_none : (b : Bool) (r : Reason) (o : Option Reason) → cond b (Some r) o ≡ None → (b ≡ false) × (o ≡ None)
 cond_none b r o h = search rules

@@ -1,15 +1,8 @@
 -- Rules that the whole command table keeps.
-use Rattle.chan_walk.proofs.Names.{and_parts, Bool, false, Fields, is_transfer, Kind, List, lookup}
-use Rattle.chan_walk.proofs.Names.{None, not, Option, Outward, refl, rules, Some, true, ℕ, [], ◌%◌}
-use Rattle.chan_walk.proofs.Names.{◌&&◌, ◌∷◌, ◌≡◌}
-use Rattle.std.proofs.Common.{◌||◌, ◌==◌}
+use Rattle.chan_walk.proofs.Names.{[], and_parts, Bool, class_is_seek, class_passes, class_recalibrates, class_sets_mask, false, Fields, Idle, Inward, is_seek, is_transfer, Kind, List, lookup, MaskClass, None, not, Option, Outward, recalibrates, refl, rules, Search, sets_mask, Some, true, ℕ, ◌%◌, ◌&&◌, ◌==◌, ◌||◌, ◌∷◌, ◌≡◌}
 use Rattle.std.specs.List.{list_all}
 use Rattle.std.proofs.lemmas.Bool.{cond_both}
-use Rattle.ckd_core.specs.declared.command.Kind.TheVariants.{Idle, Inward, Search}
-use Rattle.ckd_core.specs.declared.command.MaskClass.{MaskClass}
-use Rattle.ckd_core.specs.Command.{Entry as Command, table, find_code, class_is_seek}
-use Rattle.ckd_core.specs.Command.{class_recalibrates, class_sets_mask, class_passes, is_seek}
-use Rattle.ckd_core.specs.Command.{recalibrates, sets_mask}
+use Rattle.ckd_core.specs.Command.{Entry as Command, table, find_code}
 use Rattle.chan_walk.specs.Fault.{kind_of_command}
 
 -- a command that was looked up passes a test; so does none

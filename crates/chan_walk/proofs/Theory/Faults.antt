@@ -1,13 +1,6 @@
 -- What it says of a place that it has no own fault.
-use Rattle.chan_walk.proofs.Names.{ap, AreClear, begins_recalibrate, begins_seek, begins_set_mask}
-use Rattle.chan_walk.proofs.Names.{Bool, byte, ccw_of, program_check, covered, extents_of, false}
-use Rattle.chan_walk.proofs.Names.{fetch_of, Fields, goes_in, goes_out, has_cylinder, HasFault}
-use Rattle.chan_walk.proofs.Names.{inhibits, inl, is_at_least, is_fresh, is_known, is_none}
-use Rattle.chan_walk.proofs.Names.{is_refused, is_transfer, IsClear, IsVerdict, Job, kind_of, List}
-use Rattle.chan_walk.proofs.Names.{None, not, Option, Place, Reason, refl, rules, skips, Some}
-use Rattle.chan_walk.proofs.Names.{Stands, storage_of, store_of, sym, true, Yes, ℕ, ◌&&◌, ◌∙◌, ◌≡◌}
-use Rattle.std.proofs.lemmas.Bool.{not-false, cond-false, or_parts}
-use Rattle.chan_walk.specs.Fault.{fault_with}
+use Rattle.chan_walk.proofs.Names.{ap, AreClear, begins_recalibrate, begins_seek, begins_set_mask, Bool, byte, ccw_of, cond-false, covered, extents_of, false, fault_with, fetch_of, Fields, goes_in, goes_out, has_cylinder, HasFault, inhibits, inl, is_at_least, is_fresh, is_known, is_none, is_refused, is_transfer, IsClear, IsVerdict, Job, kind_of, List, None, not, not-false, Option, Place, program_check, Reason, refl, rules, skips, Some, Stands, storage_of, store_of, sym, true, Yes, ℕ, ◌&&◌, ◌∙◌, ◌≡◌}
+use Rattle.std.proofs.lemmas.Bool.{or_parts}
 use Rattle.chan_walk.proofs.Theory.Chains.{argument_exists, argument_unique}
 use Rattle.chan_walk.proofs.Theory.Checks.{cond_none, marks_or_none, check_stands}
 

@@ -1,14 +1,8 @@
 -- The table of successors as four cases.
-use Rattle.chan_walk.proofs.Names.{and_parts, Bool, chained, chains_data, cond, false, Fields, inl}
-use Rattle.chan_walk.proofs.Names.{inr, is_transfer, Kind, None, not, Option, Place, refl, rules}
-use Rattle.chan_walk.proofs.Names.{Some, straight_to, subst, transferred_to, true, ◌&&◌, ◌+◌, ◌≡◌}
-use Rattle.chan_walk.proofs.Names.{◌⊎◌}
+use Rattle.chan_walk.proofs.Names.{and_parts, Bool, chained, chains_data, cond, Entry, false, Fields, Fresh, inl, inr, is_transfer, Kind, next_of, None, not, not-true, Option, Place, refl, rules, skip_of, Some, straight_to, subst, transferred_to, true, ◌&&◌, ◌+◌, ◌≡◌, ◌⊎◌}
 use Rattle.std.specs.Option.{option_map}
-use Rattle.std.proofs.lemmas.Bool.{not-true}
 use Rattle.ccw_core.specs.Ccw.{chains_command}
-use Rattle.chan_walk.specs.declared.place.Entry.{Entry}
-use Rattle.chan_walk.specs.declared.place.Entry.TheVariants.{Fresh}
-use Rattle.chan_walk.specs.Successor.{gives_modifier, next_of, skip_of}
+use Rattle.chan_walk.specs.Successor.{gives_modifier}
 
 pub data Follows (p : Place) (c : Fields) (k : Kind) : Place → Type 0 where
   by_transfer : is_transfer c ≡ true → Follows p c k (transferred_to c.address p.entered)

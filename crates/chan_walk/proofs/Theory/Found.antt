@@ -1,41 +1,15 @@
 -- The own fault of a place with its evidence.
-use Rattle.std.proofs.Common.{Bool, ◌≡◌, ℕ, zero, suc, ◌+◌, ◌<◌, ◌≤◌, true, false, not, ◌&&◌}
-use Rattle.std.proofs.Common.{if◌then◌else◌, List, ◌++◌, Option, Some, None, refl, sym, ap, ◌∙◌}
-use Rattle.std.proofs.Common.{subst, ◌⊎◌, inl, inr, arith, rules}
+use Rattle.chan_walk.proofs.Names.{allows, and_parts, ap, Area, AreExactly, arith, begins_recalibrate, begins_seek, begins_set_mask, Bool, both_ways, byte, cases_Bool, ccw_at, ccw_at-some, ccw_of, command_faults, cond-false, covered, cylinder_of, direction_of, end_of, Evidence, extents_of, false, fetches, Fields, first_reason, goes_in, goes_out, has_cylinder, HasArgument, head_of, if◌then◌else◌, inl, inr, is_at_least, is_direction, is_transfer, IsOwnFault, Job, Kind, kind_of, lent_faults, lies_in, List, moves_by, None, not, Option, option_or, Place, program_check, Reason, refl, rules, SeekOutside, skips, Some, storage_of, stores, subst, suc, sym, table_of_own, Track, track_of, true, WeakensMask, zero, ℕ, ◌&&◌, ◌++◌, ◌+◌, ◌<◌, ◌∙◌, ◌≡◌, ◌≤◌, ◌⊎◌}
 use Rattle.std.specs.Cmp.Derive.{one_truth}
-use Rattle.std.specs.Option.{option_or}
-use Rattle.std.proofs.lemmas.Bool.{and_parts, and_right, both_ways, cases_Bool, cond-false}
-use Rattle.ccw_core.specs.declared.areas.Area.{Area}
-use Rattle.ccw_core.specs.Areas.{IsGap, covered, lies_in, end_of}
-use Rattle.ccw_core.specs.Ccw.{Fields, byte, is_transfer, skips}
-use Rattle.ccw_core.specs.Storage.{ccw_at}
-use Rattle.ccw_core.proofs.StorageLemmas.{ccw_at-some}
-use Rattle.ckd_core.specs.declared.track.Track.{Track}
-use Rattle.ckd_core.specs.Track.{cylinder_of, has_no_bin, head_of, track_of}
-use Rattle.ckd_core.specs.Extents.{has_cylinder}
-use Rattle.ckd_core.specs.Mask.{is_at_least}
-use Rattle.ckd_core.specs.declared.command.Kind.{Kind}
-use Rattle.chan_areas.specs.Merged.{AreExactly}
+use Rattle.std.proofs.lemmas.Bool.{and_right}
+use Rattle.ccw_core.specs.Areas.{IsGap}
+use Rattle.ckd_core.specs.Track.{has_no_bin}
 use Rattle.chan_walk.specs.declared.direction.Direction.{Direction}
 use Rattle.chan_walk.specs.declared.direction.Direction.TheVariants.{Store, Fetch}
-use Rattle.chan_walk.specs.Direction.{direction_of, is_direction, moves_by}
-use Rattle.chan_walk.specs.declared.evidence.Evidence.{Evidence}
-use Rattle.chan_walk.specs.declared.job.Job.{Job}
-use Rattle.chan_walk.specs.declared.place.Place.{Place}
-use Rattle.chan_walk.specs.declared.reason.Reason.{Reason}
-use Rattle.chan_walk.specs.declared.reason.Reason.TheVariants.{SeekOutside, WeakensMask}
-use Rattle.chan_walk.specs.Argument.{HasArgument}
-use Rattle.chan_walk.specs.ProgramCheck.{program_check, first_reason}
-use Rattle.chan_walk.specs.Evidence.{GoTogether, IsOwnFault}
-use Rattle.chan_walk.specs.Fault.{goes_in, goes_out, fetches, kind_of, stores}
-use Rattle.chan_walk.specs.Fault.{allows, begins_recalibrate, begins_seek, begins_set_mask}
-use Rattle.chan_walk.specs.Fault.{command_faults, lent_faults, table_of_own}
-use Rattle.chan_walk.specs.Job.{extents_of, storage_of}
-use Rattle.chan_walk.specs.Place.{ccw_of}
+use Rattle.chan_walk.specs.Evidence.{GoTogether}
 use Rattle.chan_walk.specs.Tables.{operand_faults}
 use Rattle.chan_walk.proofs.Theory.Chains.{argument_exists}
-use Rattle.chan_walk.proofs.Theory.Commands.{mask_no_recalibrate, seek_no_recalibrate}
-use Rattle.chan_walk.proofs.Theory.Commands.{seek_sets_no_mask}
+use Rattle.chan_walk.proofs.Theory.Commands.{mask_no_recalibrate, seek_no_recalibrate, seek_sets_no_mask}
 use Rattle.chan_walk.proofs.Theory.OwnFaults.{first_reason-append}
 
 -- ---- put together

@@ -1,31 +1,14 @@
 -- Two jobs of one program: where one has the verdict yes, the other has it exactly if all that is reachable is clear.
-use Rattle.chan_walk.proofs.Names.{allows, and_from, and_parts, ap, Area, AreClear, arith}
-use Rattle.chan_walk.proofs.Names.{begins_recalibrate, begins_seek, begins_set_mask, Bool, byte}
-use Rattle.chan_walk.proofs.Names.{ccw, ccw_of, program_check, cond, covered, extents_of, false}
-use Rattle.chan_walk.proofs.Names.{fetch_of, Fields, first_place, first_reason, goes_in, goes_out}
-use Rattle.chan_walk.proofs.Names.{has_cylinder, HasArgument, if◌then◌else◌, inhibits, inl, inr}
-use Rattle.chan_walk.proofs.Names.{is_at_least, is_fresh, is_known, is_none, is_refused}
-use Rattle.chan_walk.proofs.Names.{is_transfer, IsClear, IsReachable, IsVerdict, Job, kind_of}
-use Rattle.chan_walk.proofs.Names.{length, lies_in, List, None, not, Offends, Option, option_or}
-use Rattle.chan_walk.proofs.Names.{Place, refl, rules, skips, Some, Stands, storage_of, store_of}
-use Rattle.chan_walk.proofs.Names.{stores, subst, sym, table_of_own, TakesArgumentByte}
-use Rattle.chan_walk.proofs.Names.{transferred_to, true, Yes, ℕ, ◌&&◌, ◌+◌, ◌<◌, ◌↔◌, ◌∙◌, ◌≡◌, ◌≤◌}
-use Rattle.std.proofs.Common.{◌||◌, nat_lt}
-use Rattle.std.proofs.lemmas.Bool.{or_from, not-true, not-false, not_from_true}
-use Rattle.ckd_core.specs.Track.{cylinder_of, head_of, is_allowed}
-use Rattle.ckd_core.specs.Device.{heads_of}
-use Rattle.chan_walk.specs.declared.place.Entry.TheVariants.{Fresh}
-use Rattle.chan_walk.specs.Fault.{fetches}
-use Rattle.chan_walk.specs.Job.{heads}
-use Rattle.chan_walk.specs.OpenJob.{AreOfOneProgram, GrantsMore, MoreIsYes, SameUnderYes}
-use Rattle.chan_walk.specs.Moved.{IsDataOf}
+use Rattle.chan_walk.proofs.Names.{allows, and_from, and_parts, ap, Area, AreClear, AreOfOneProgram, arith, begins_recalibrate, begins_seek, begins_set_mask, Bool, byte, ccw, ccw_of, cond, covered, cylinder_of, extents_of, false, fetch_of, fetches, Fields, first_place, first_reason, Fresh, goes_in, goes_out, GrantsMore, has_cylinder, HasArgument, head_of, heads, heads_of, if◌then◌else◌, inhibits, inl, inr, is_allowed, is_at_least, is_fresh, is_known, is_none, is_refused, is_transfer, IsClear, IsDataOf, IsReachable, IsVerdict, Job, kind_of, length, lies_in, List, None, not, not-false, not-true, Offends, Option, option_or, Place, program_check, refl, rules, skips, Some, Stands, storage_of, store_of, stores, subst, sym, table_of_own, TakesArgumentByte, transferred_to, true, Yes, ℕ, ◌&&◌, ◌+◌, ◌<◌, ◌||◌, ◌↔◌, ◌∙◌, ◌≡◌, ◌≤◌}
+use Rattle.std.proofs.Common.{nat_lt}
+use Rattle.std.proofs.lemmas.Bool.{or_from, not_from_true}
+use Rattle.chan_walk.specs.OpenJob.{MoreIsYes, SameUnderYes}
 use Rattle.chan_walk.proofs.Theory.Areas.{covered_at, allows_cylinder}
 use Rattle.chan_walk.proofs.Theory.Faults.{IsGood, clear_check, clear_good, fault_unique, yes_clear}
 use Rattle.chan_walk.proofs.Theory.OwnFaults.{data_in_storage}
 use Rattle.ccw_core.proofs.Covering.{covered-true}
 use Rattle.chan_walk.proofs.Theory.Masks.{laxer_permits, strict_as_laxer}
-use Rattle.chan_walk.proofs.Theory.Transport.{CarriesOver, reach_over, changes_over, same_reached}
-use Rattle.chan_walk.proofs.Theory.Transport.{same_guarded, same_data}
+use Rattle.chan_walk.proofs.Theory.Transport.{CarriesOver, reach_over, changes_over, same_reached, same_guarded, same_data}
 
 -- ---- one place
 

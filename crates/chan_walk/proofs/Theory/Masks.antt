@@ -1,8 +1,7 @@
 -- Strictness of masks.
-use Rattle.chan_walk.proofs.Names.{and_from, false, inhibits, is_at_least, lookup, None, Option}
-use Rattle.chan_walk.proofs.Names.{refl, Some, true, ℕ, ◌≡◌}
-use Rattle.ckd_core.specs.Mask.{is_mask, inhibits_class}
-use Rattle.ckd_core.specs.Command.{Entry as Command, class_passes}
+use Rattle.chan_walk.proofs.Names.{and_from, class_passes, false, inhibits, is_at_least, is_mask, lookup, None, Option, refl, Some, true, ℕ, ◌≡◌}
+use Rattle.ckd_core.specs.Mask.{inhibits_class}
+use Rattle.ckd_core.specs.Command.{Entry as Command}
 use Rattle.ckd_core.proofs.LevelLemmas.{strict-permits}
 
 -- a file mask is at least as strict as itself

@@ -1,11 +1,5 @@
 -- The whole table of own faults: its first reason is the own fault, and its numbers increase.
-use Rattle.chan_walk.proofs.Names.{ap, append-nil, arith, Bool, ccw_of, program_check_of, false}
-use Rattle.chan_walk.proofs.Names.{Fields, first_reason, if◌then◌else◌, is_transfer, length, List}
-use Rattle.chan_walk.proofs.Names.{None, Option, option_or, Reason, rules, storage_of, subst, suc}
-use Rattle.chan_walk.proofs.Names.{sym, table_of_every_ccw, table_of_non_transfer, table_of_own}
-use Rattle.chan_walk.proofs.Names.{true, zero, ℕ, [], ◌++◌, ◌+◌, ◌<◌, ◌∙◌, ◌∷◌, ◌≡◌}
-use Rattle.std.proofs.Common.{slice_index}
-use Rattle.std.specs.List.Sorted.{IsStrictlyIncreasing}
+use Rattle.chan_walk.proofs.Names.{[], ap, append-nil, arith, Bool, ccw_of, false, Fields, first_reason, if◌then◌else◌, is_transfer, IsStrictlyIncreasing, length, List, None, Option, option_or, program_check_of, Reason, rules, slice_index, storage_of, subst, suc, sym, table_of_every_ccw, table_of_non_transfer, table_of_own, true, zero, ℕ, ◌++◌, ◌+◌, ◌<◌, ◌∙◌, ◌∷◌, ◌≡◌}
 use Rattle.chan_walk.specs.Order.{numbers_of, NumbersIncrease}
 use Rattle.chan_walk.proofs.Theory.OwnFaults.{first_reason-append}
 

@@ -1,8 +1,5 @@
 -- Parts of the table of own faults, and what passed the channel's checks.
-use Rattle.chan_walk.proofs.Names.{Bool, ccw, program_check, false, Fields, first_reason}
-use Rattle.chan_walk.proofs.Names.{has_data_in}
-use Rattle.chan_walk.proofs.Names.{is_transfer, leb-true, length, List, None, option_or, Place}
-use Rattle.chan_walk.proofs.Names.{Reason, refl, rules, subst, sym, ℕ, [], ◌++◌, ◌+◌, ◌∷◌, ◌≡◌, ◌≤◌}
+use Rattle.chan_walk.proofs.Names.{[], Bool, ccw, false, Fields, first_reason, has_data_in, is_transfer, leb-true, length, List, None, option_or, Place, program_check, Reason, refl, rules, subst, sym, ℕ, ◌++◌, ◌+◌, ◌∷◌, ◌≡◌, ◌≤◌}
 use Rattle.chan_walk.proofs.Theory.Checks.{passed}
 
 pub first_reason-append : (xs ys : List (Bool × Reason)) → first_reason (xs ++ ys) ≡ option_or (first_reason xs) (first_reason ys)

@@ -1,15 +1,5 @@
 -- From one job to another: what the verdict asks of the places that both reach carries over.
-use Rattle.chan_walk.proofs.Names.{AreClear, Bool, ccw_of, ChangesGuarded, data_of, Fields}
-use Rattle.chan_walk.proofs.Names.{first_place, HasFault, inl, inr, IsArgumentByte, IsCcwByte}
-use Rattle.chan_walk.proofs.Names.{IsClear, IsGuarded, IsPath, IsReachable, IsVerdict, Job, kind_of}
-use Rattle.chan_walk.proofs.Names.{List, Offends, Place, Reason, rules, Some, Stands, storage_of}
-use Rattle.chan_walk.proofs.Names.{StoresOver, subst, sym, TakesArgumentByte, true, Yes, ℕ, [], ◌<◌}
-use Rattle.chan_walk.proofs.Names.{◌↔◌, ◌∙◌, ◌∷◌, ◌≡◌, ◌≤◌, ◌⊎◌}
-use Rattle.ccw_core.specs.Areas.{end_of}
-use Rattle.chan_walk.specs.declared.verdict.Verdict.{Verdict}
-use Rattle.chan_walk.specs.declared.verdict.Verdict.TheVariants.{No}
-use Rattle.chan_walk.specs.Moved.{IsDataOf}
-use Rattle.chan_walk.specs.Successor.{next_of, skip_of}
+use Rattle.chan_walk.proofs.Names.{[], AreClear, Bool, ccw_of, ChangesGuarded, data_of, end_of, Fields, first_place, HasFault, inl, inr, IsArgumentByte, IsCcwByte, IsClear, IsDataOf, IsGuarded, IsPath, IsReachable, IsVerdict, Job, kind_of, List, next_of, No, Offends, Place, Reason, rules, skip_of, Some, Stands, storage_of, StoresOver, subst, sym, TakesArgumentByte, true, Verdict, Yes, ℕ, ◌<◌, ◌↔◌, ◌∙◌, ◌∷◌, ◌≡◌, ◌≤◌, ◌⊎◌}
 
 -- what the verdict asks of p carries over from j to k
 pub record CarriesOver (j k : Job) (p : Place) : Type 0 where
@@ -38,23 +28,12 @@ module _ (j k : Job) (on : (p : Place) → IsReachable j p → IsReachable k p �
   ccw_byte_over : (b : ℕ) → IsCcwByte j b → IsCcwByte k b
   ccw_byte_over b g =
       let here = on g.place g.reached in
-      record {
-        place = g.place;
-        reached = here.0;
-        stands = here.1.stands g.stands;
-        from = g.from;
-        below = g.below;
-      }
+      record { place = g.place; reached = here.0; stands = here.1.stands g.stands; from = g.from; below = g.below }
 
   argument_byte_over : (b : ℕ) → IsArgumentByte j b → IsArgumentByte k b
   argument_byte_over b g =
       let here = on g.place g.reached in
-      record {
-        place = g.place;
-        reached = here.0;
-        clear = here.1.clear g.clear;
-        takes = here.1.takes g.clear b g.takes;
-      }
+      record { place = g.place; reached = here.0; clear = here.1.clear g.clear; takes = here.1.takes g.clear b g.takes }
 
   guarded_over : (b : ℕ) → IsGuarded j b → IsGuarded k b
   guarded_over b (inl g) = inl (ccw_byte_over b g)

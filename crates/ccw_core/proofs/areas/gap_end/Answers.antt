@@ -2,11 +2,7 @@ use Rattle.std.proofs.Common.{◌+◌, subst, sym, arith}
 use Rattle.ccw_core.specs.declared.areas.Area.{Area}
 use Rattle.ccw_core.proofs.Covering.{IsGapAmong, lies_in-nil, stops_later, stops_there}
 use Rattle.ccw_core.proofs.areas.gap_end.Goals as goal
-use Rattle.ccw_core.proofs.areas.gap_end.Goals.{then-area-gt0+then-start-area+then-area-stop}
-use Rattle.ccw_core.proofs.areas.gap_end.Goals.{else-area-gt0}
-use Rattle.ccw_core.proofs.areas.gap_end.Goals.{else-area-gt0-via-then-area-gt0+then-start-area+else-area-stop}
-use Rattle.ccw_core.proofs.areas.gap_end.Goals.{else-area-gt0-via-then-area-gt0+else-start-area}
-use Rattle.ccw_core.proofs.areas.gap_end.Goals.{else-area-gt0-via-else-area-gt0}
+use Rattle.ccw_core.proofs.areas.gap_end.Goals.{then-area-gt0+then-start-area+then-area-stop, else-area-gt0, else-area-gt0-via-then-area-gt0+then-start-area+else-area-stop, else-area-gt0-via-then-area-gt0+else-start-area, else-area-gt0-via-else-area-gt0}
 
 pub loop-area-init : goal.loop-area-init
 loop-area-init c = record { filled = omega arith; within = omega arith; inside = λ b l h. lies_in-nil b; after = λ l. absurd (omega arith) }

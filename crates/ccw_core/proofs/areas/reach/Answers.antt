@@ -1,8 +1,7 @@
 use Rattle.std.proofs.Common.{arith, inl, inr}
 use Rattle.ccw_core.proofs.Covering.{lies_in-at, lies_in-more, lies_in-nil}
 use Rattle.ccw_core.proofs.areas.reach.Goals as goal
-use Rattle.ccw_core.proofs.areas.reach.Goals.{else-start-address-via-then-start-address+else-address-end}
-use Rattle.ccw_core.proofs.areas.reach.Goals.{else-start-address-via-else-start-address}
+use Rattle.ccw_core.proofs.areas.reach.Goals.{else-start-address-via-then-start-address+else-address-end, else-start-address-via-else-start-address}
 
 pub loop-area-init : goal.loop-area-init
 loop-area-init c = lies_in-nil c.args.address

@@ -3,8 +3,7 @@ use Rattle.clap.specs.Walk.{Text}
 use Rattle.chan_args.proofs.TakenLines.{taken_is_known}
 use Rattle.chan_args.specs.CommandLine.{IsRequestOf, IsKnownCommand, IsAccepted}
 use Rattle.chan_args.specs.Lines.{chanv}
-use Rattle.chan_args.proofs.Names.{App, ArgMatches, HasKind, HasMatchesOf, fault_of, is_simple}
-use Rattle.chan_args.proofs.Names.{is_simple_and_free, subcommand_of, subcommand_rows_of}
+use Rattle.chan_args.proofs.Names.{App, ArgMatches, HasKind, HasMatchesOf, fault_of, is_simple, is_simple_and_free, subcommand_of, subcommand_rows_of}
 use Rattle.chan_args.proofs.command_line.asked.Goals as goal
 
 met_of : (a : App) (words : List Text) (m : ArgMatches) → a ≡ chanv → HasMatchesOf a words m

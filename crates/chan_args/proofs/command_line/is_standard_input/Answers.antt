@@ -1,9 +1,7 @@
 -- One file is standard input where it is `-`.
-use Rattle.std.proofs.Common.{◌<◌, ◌↔◌, ◌∙◌, ◌∷◌, ◌≡◌, ◌≤◌, Bool, List, [], ap, arith, codes, inl}
-use Rattle.std.proofs.Common.{inr, length, sym}
+use Rattle.std.proofs.Common.{◌<◌, ◌↔◌, ◌∙◌, ◌∷◌, ◌≡◌, ◌≤◌, Bool, List, [], ap, arith, codes, inl, inr, length, sym}
 use Rattle.clap.specs.Walk.{Text}
-use Rattle.chan_args.proofs.Names.{Bor, IsStandardInput, IsTrue, bytes_eq, bytes_eq-Decides}
-use Rattle.chan_args.proofs.Names.{slice_index_or, texts_of}
+use Rattle.chan_args.proofs.Names.{Bor, IsStandardInput, IsTrue, bytes_eq, bytes_eq-Decides, slice_index_or, texts_of}
 use Rattle.chan_args.proofs.command_line.is_standard_input.Goals as goal
 
 -- one file that is standard input is `-`

@@ -1,7 +1,6 @@
 -- The file is that of the rows.
 use Rattle.std.proofs.Common.{◌≡◌, codes, false, refl, rules, true}
-use Rattle.chan_args.proofs.image_command.file.Goals.{in_default-via-in-Some+else-ne}
-use Rattle.chan_args.proofs.image_command.file.Goals.{in_default-via-in_default}
+use Rattle.chan_args.proofs.image_command.file.Goals.{in_default-via-in-Some+else-ne, in_default-via-in_default}
 use Rattle.chan_args.proofs.Names.{bytes_eq}
 use Rattle.chan_args.proofs.image_command.file.Goals as goal
 

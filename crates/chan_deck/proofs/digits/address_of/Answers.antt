@@ -1,5 +1,4 @@
-use Rattle.std.proofs.Common.{sym, ap, ◌∙◌}
-use Rattle.hex.specs.Hex.{encode_upper}
+use Rattle.chan_deck.proofs.Names.{ap, encode_upper, sym, ◌∙◌}
 use Rattle.chan_deck.proofs.ByteNumbers.{address_bytes}
 use Rattle.chan_deck.proofs.digits.address_of.Goals as goal
 

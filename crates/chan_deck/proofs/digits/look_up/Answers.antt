@@ -1,4 +1,4 @@
-use Rattle.std.proofs.Common.{◌<◌, ◌*◌, ◌∙◌, length, ap, arith}
+use Rattle.chan_deck.proofs.Names.{ap, arith, length, ◌*◌, ◌<◌, ◌∙◌}
 use Rattle.chan_deck.proofs.DigitValues.{bytes_set, no_pair, none_yet, one_more}
 use Rattle.chan_deck.proofs.UpperDigits.{length-encode_upper}
 use Rattle.chan_deck.proofs.digits.look_up.Goals as goal

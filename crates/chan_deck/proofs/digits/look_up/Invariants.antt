@@ -1,5 +1,4 @@
-use Rattle.std.proofs.Common.{◌≡◌, ◌*◌, length, take}
-use Rattle.hex.specs.Hex.{IsBytes, encode_upper}
+use Rattle.chan_deck.proofs.Names.{encode_upper, IsBytes, length, take, ◌*◌, ◌≡◌}
 use Rattle.chan_deck.proofs.digits.look_up.Given as goal
 
 -- the digits that were looked at are those of the bytes so far

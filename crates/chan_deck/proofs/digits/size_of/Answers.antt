@@ -1,8 +1,4 @@
-use Rattle.std.proofs.Common.{◌≡◌, ◌∷◌, ◌/◌, ◌%◌, List, [], ℕ, length, sym, ap, ◌∙◌, refl, ◌-◌}
-use Rattle.std.proofs.Common.{arith, ◌++◌, length-drop}
-use Rattle.std.specs.Int.{bytes_high_first}
-use Rattle.std.proofs.lemmas.List.{append-nil}
-use Rattle.hex.specs.Hex.{encode_upper}
+use Rattle.chan_deck.proofs.Names.{[], ap, append-nil, arith, bytes_high_first, encode_upper, length, length-drop, List, refl, sym, ℕ, ◌%◌, ◌++◌, ◌-◌, ◌/◌, ◌∙◌, ◌∷◌, ◌≡◌}
 use Rattle.chan_deck.proofs.ByteNumbers.{size_bytes, bytes_four}
 use Rattle.chan_deck.proofs.UpperDigits.{length-encode_upper, with_zero}
 use Rattle.chan_deck.proofs.digits.size_of.Goals as goal

@@ -1,4 +1,4 @@
-use Rattle.std.proofs.Common.{arith}
+use Rattle.chan_deck.proofs.Names.{arith}
 use Rattle.chan_deck.proofs.UpperDigits.{some_value, no_value}
 use Rattle.chan_deck.proofs.digits.value_of.Goals as goal
 

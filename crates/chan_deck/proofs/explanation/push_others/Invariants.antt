@@ -1,5 +1,4 @@
-use Rattle.std.proofs.Common.{◌≡◌, ◌++◌, ◌-◌, drop, string_bytes}
-use Rattle.chan_deck.specs.Explanation.{also_lines}
+use Rattle.chan_deck.proofs.Names.{also_lines, drop, string_bytes, ◌++◌, ◌-◌, ◌≡◌}
 use Rattle.chan_deck.proofs.explanation.push_others.Given as goal
 
 -- what is written and the lines that are left are all

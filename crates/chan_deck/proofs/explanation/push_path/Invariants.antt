@@ -1,4 +1,4 @@
-use Rattle.std.proofs.Common.{string_bytes}
+use Rattle.chan_deck.proofs.Names.{string_bytes}
 use Rattle.chan_deck.proofs.ExplanationLemmas.{HasRows}
 use Rattle.chan_deck.proofs.explanation.push_path.Given as goal
 

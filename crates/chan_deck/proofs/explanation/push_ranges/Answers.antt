@@ -1,5 +1,4 @@
-use Rattle.std.proofs.Common.{◌∙◌, sym, arith}
-use Rattle.std.proofs.lemmas.Result.{on_ok_weaker}
+use Rattle.chan_deck.proofs.Names.{arith, on_ok_weaker, sym, ◌∙◌}
 use Rattle.chan_deck.proofs.StepLemmas.{not_zero}
 use Rattle.chan_deck.proofs.RangeLemmas.{ranges_end, ranges_more}
 use Rattle.chan_deck.proofs.explanation.push_ranges.Goals as goal

@@ -1,5 +1,4 @@
-use Rattle.std.proofs.Common.{◌≡◌, ◌++◌, ◌-◌, drop, string_bytes}
-use Rattle.chan_deck.specs.Explanation.{ranges_behind, ranges_text}
+use Rattle.chan_deck.proofs.Names.{drop, ranges_behind, ranges_text, string_bytes, ◌++◌, ◌-◌, ◌≡◌}
 use Rattle.chan_deck.proofs.explanation.push_ranges.Given as goal
 
 -- what is written and what is left are all

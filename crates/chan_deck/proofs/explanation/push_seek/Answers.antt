@@ -1,5 +1,4 @@
-use Rattle.std.proofs.Common.{◌∙◌, string_bytes}
-use Rattle.std.proofs.lemmas.Result.{on_ok_weaker}
+use Rattle.chan_deck.proofs.Names.{on_ok_weaker, string_bytes, ◌∙◌}
 use Rattle.chan_deck.proofs.ExplanationLemmas.{bin_told, head_told}
 use Rattle.chan_deck.proofs.explanation.push_seek.Goals as goal
 

@@ -1,7 +1,4 @@
-use Rattle.std.proofs.Common.{◌∙◌, string_bytes, codes}
-use Rattle.std.proofs.lemmas.Result.{on_ok_weaker}
-use Rattle.std.specs.Fmt.{decimal}
-use Rattle.chan_deck.specs.Explanation.{given_text}
+use Rattle.chan_deck.proofs.Names.{codes, decimal, given_text, on_ok_weaker, string_bytes, ◌∙◌}
 use Rattle.chan_deck.proofs.ExplanationLemmas.{short_told}
 use Rattle.chan_deck.proofs.explanation.push_short.Goals as goal
 

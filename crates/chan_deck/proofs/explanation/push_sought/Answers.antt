@@ -1,6 +1,4 @@
-use Rattle.std.proofs.Common.{◌∙◌, string_bytes}
-use Rattle.std.proofs.lemmas.Result.{on_ok_weaker}
-use Rattle.chan_deck.specs.Explanation.{seek_text}
+use Rattle.chan_deck.proofs.Names.{on_ok_weaker, seek_text, string_bytes, ◌∙◌}
 use Rattle.chan_deck.proofs.ExplanationLemmas.{sought_told}
 use Rattle.chan_deck.proofs.explanation.push_sought.Goals as goal
 

@@ -1,6 +1,4 @@
-use Rattle.std.proofs.Common.{◌∙◌, ap, refl, string_bytes}
-use Rattle.std.proofs.lemmas.Result.{on_ok_weaker}
-use Rattle.chan_deck.specs.Listing.{command_name}
+use Rattle.chan_deck.proofs.Names.{ap, command_name, on_ok_weaker, refl, string_bytes, ◌∙◌}
 use Rattle.chan_deck.proofs.ExplanationLemmas.{weaker_told}
 use Rattle.chan_deck.proofs.explanation.push_weaker.Goals as goal
 

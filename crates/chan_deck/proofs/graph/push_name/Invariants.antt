@@ -1,4 +1,4 @@
-use Rattle.std.proofs.Common.{◌≡◌, ◌++◌, string_bytes, take}
+use Rattle.chan_deck.proofs.Names.{string_bytes, take, ◌++◌, ◌≡◌}
 use Rattle.chan_deck.specs.Graph.{escaped}
 use Rattle.chan_deck.proofs.graph.push_name.Given as goal
 

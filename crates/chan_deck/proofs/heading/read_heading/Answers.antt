@@ -1,5 +1,4 @@
-use Rattle.std.proofs.Common.{◌≡◌, [], false, refl}
-use Rattle.chan_deck.specs.Reading.{Listing, begun_state, is_whole}
+use Rattle.chan_deck.proofs.Names.{[], begun_state, false, is_whole, Listing, refl, ◌≡◌}
 use Rattle.chan_deck.specs.declared.heading.Begun.{Begun}
 use Rattle.chan_deck.specs.declared.heading.Begun.TheVariants.{Opening}
 use Rattle.chan_deck.proofs.LineRefusals.{was_read}

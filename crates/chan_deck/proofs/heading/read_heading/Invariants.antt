@@ -1,5 +1,4 @@
-use Rattle.std.proofs.Common.{length}
-use Rattle.chan_deck.specs.Reading.{ReadingGoesOn, Opening, begun_state}
+use Rattle.chan_deck.proofs.Names.{begun_state, length, Opening, ReadingGoesOn}
 use Rattle.chan_deck.proofs.heading.read_heading.Given as goal
 
 -- the cursor stands after what was said

@@ -1,5 +1,4 @@
-use Rattle.std.proofs.Common.{◌∙◌, ◌++◌, ◌∷◌, [], ◌≡◌, Some, sym, true, false}
-use Rattle.chan_deck.specs.Refused.{is_second}
+use Rattle.chan_deck.proofs.Names.{[], false, is_second, Some, sym, true, ◌++◌, ◌∙◌, ◌∷◌, ◌≡◌}
 use Rattle.chan_deck.proofs.HintLemmas.{item_told, second_told, size_of_one, size_stays}
 use Rattle.chan_deck.proofs.hint.one_more.Goals as goal
 use Rattle.chan_deck.proofs.hint.one_more.Goals.{then-is_some, else-is_some}

@@ -1,4 +1,4 @@
-use Rattle.std.proofs.Common.{arith, refl, rules}
+use Rattle.chan_deck.proofs.Names.{arith, refl, rules}
 use Rattle.chan_deck.proofs.HintLemmas.{all_behind, fewer_behind, none_taken, one_taken}
 use Rattle.chan_deck.proofs.hint.skip_lines.Goals as goal
 

@@ -1,5 +1,4 @@
-use Rattle.std.proofs.Common.{sym, ◌∙◌}
-use Rattle.chan_deck.specs.Item.{address_digits}
+use Rattle.chan_deck.proofs.Names.{address_digits, sym, ◌∙◌}
 use Rattle.chan_deck.proofs.FieldLemmas.{on_none, same_behind, length-address_digits}
 use Rattle.chan_deck.proofs.item.area_of.Goals as goal
 

@@ -1,6 +1,5 @@
-use Rattle.std.proofs.Common.{sym, ◌∙◌, refl}
+use Rattle.chan_deck.proofs.Names.{cylinder_digits, refl, sym, ◌∙◌}
 use Rattle.std.specs.Prelude.{codes}
-use Rattle.chan_deck.specs.Item.{cylinder_digits}
 use Rattle.chan_deck.proofs.FieldLemmas.{on_none, same_behind}
 use Rattle.chan_deck.proofs.item.extent_of.Goals as goal
 

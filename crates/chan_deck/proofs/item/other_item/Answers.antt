@@ -1,5 +1,4 @@
-use Rattle.chan_deck.specs.Item.{header, device, mask, start, limit, extent, fetch, store, storage}
-use Rattle.chan_deck.specs.Item.{put, end}
+use Rattle.chan_deck.proofs.Names.{device, end, extent, fetch, header, limit, mask, put, start, storage, store}
 use Rattle.chan_deck.proofs.item.other_item.Goals as goal
 
 pub returns : goal.returns

@@ -1,7 +1,5 @@
-use Rattle.std.proofs.Common.{length, sym, ap, ◌∙◌}
+use Rattle.chan_deck.proofs.Names.{address_digits, ap, encode_upper, length, sym, ◌∙◌}
 use Rattle.std.specs.Prelude.{codes}
-use Rattle.hex.specs.Hex.{encode_upper}
-use Rattle.chan_deck.specs.Item.{address_digits}
 use Rattle.chan_deck.proofs.FieldLemmas.{on_none, put_length, same_behind, length-address_digits}
 use Rattle.chan_deck.proofs.item.put_of.Goals as goal
 

@@ -1,5 +1,4 @@
-use Rattle.std.proofs.Common.{◌≡◌, ◌∷◌, ◌∙◌, ap, drop, sym}
-use Rattle.std.proofs.lemmas.List.{drop_at}
+use Rattle.chan_deck.proofs.Names.{ap, drop, drop_at, sym, ◌∙◌, ◌∷◌, ◌≡◌}
 use Rattle.chan_deck.proofs.FieldLemmas.{cancel, on_none}
 use Rattle.chan_deck.proofs.item.two_fields.Goals as goal
 

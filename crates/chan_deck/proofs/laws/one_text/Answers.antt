@@ -1,4 +1,4 @@
-use Rattle.std.proofs.Common.{◌∙◌, sym}
+use Rattle.chan_deck.proofs.Names.{sym, ◌∙◌}
 use Rattle.chan_deck.proofs.RefusalLemmas.{same_deck}
 use Rattle.chan_deck.proofs.laws.one_text.Goals as goal
 

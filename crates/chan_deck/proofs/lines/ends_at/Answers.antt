@@ -1,7 +1,4 @@
-use Rattle.std.proofs.Common.{◌≡◌, ◌++◌, sym, ap, ◌∙◌}
-use Rattle.std.specs.Prelude.{◌==◌, position}
-use Rattle.std.proofs.lemmas.Bool.{not-true}
-use Rattle.std.proofs.lemmas.List.{take-append-drop}
+use Rattle.chan_deck.proofs.Names.{ap, not-true, position, sym, take-append-drop, ◌++◌, ◌==◌, ◌∙◌, ◌≡◌}
 use Rattle.chan_deck.proofs.LineFeeds.{first_feed}
 use Rattle.chan_deck.proofs.lines.ends_at.Goals as goal
 

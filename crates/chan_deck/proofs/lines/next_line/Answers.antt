@@ -1,7 +1,5 @@
-use Rattle.std.proofs.Common.{◌≡◌, [], ◌∷◌, drop, Option, Some, None, sym, ap, ◌∙◌, ◌+◌}
+use Rattle.chan_deck.proofs.Names.{[], ap, drop, drop-drop, None, Option, Some, split, sym, ◌+◌, ◌∙◌, ◌∷◌, ◌≡◌}
 use Rattle.std.specs.Prelude.{IfNone}
-use Rattle.std.proofs.lemmas.List.{drop-drop}
-use Rattle.chan_deck.specs.Refused.{split}
 use Rattle.chan_deck.proofs.LineFeeds.{some_line, no_line}
 use Rattle.chan_deck.proofs.lines.next_line.Goals as goal
 

@@ -1,6 +1,4 @@
-use Rattle.std.proofs.lemmas.Result.{on_ok_weaker}
-use Rattle.ccw_core.proofs.Prefixes.{prefix_of_more}
-use Rattle.chan_deck.specs.VerdictLine.{verdict_line}
+use Rattle.chan_deck.proofs.Names.{on_ok_weaker, prefix_of_more, verdict_line}
 use Rattle.chan_deck.proofs.Pieces.{all_held, begun_more, written_more}
 use Rattle.chan_deck.proofs.listing.write_listing.Goals as goal
 

@@ -1,7 +1,4 @@
-use Rattle.std.proofs.Common.{◌≡◌, false, string_bytes, take}
-use Rattle.std.specs.List.{flat_map}
-use Rattle.chan_deck.specs.Listing.{seen_row}
-use Rattle.chan_deck.specs.WrittenInPieces.{AppendsInPieces}
+use Rattle.chan_deck.proofs.Names.{AppendsInPieces, false, flat_map, seen_row, string_bytes, take, ◌≡◌}
 use Rattle.chan_deck.proofs.listing.write_looks.Given as goal
 
 abbrev pub invariant-loop-look : goal.invariant-loop-look

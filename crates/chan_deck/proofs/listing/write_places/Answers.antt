@@ -1,6 +1,5 @@
-use Rattle.std.proofs.Common.{◌∷◌, [], ◌∙◌, ◌++◌, ap, sym, append_assoc, append-nil}
-use Rattle.chan_walk.specs.Job.{storage_of}
-use Rattle.chan_deck.specs.Listing.{marked_row}
+use Rattle.chan_deck.proofs.Names.{[], ap, append_assoc, marked_row, storage_of, sym, ◌++◌, ◌∙◌, ◌∷◌}
+use Rattle.std.proofs.Common.{append-nil}
 use Rattle.chan_deck.proofs.Failures.{not_failed}
 use Rattle.chan_deck.proofs.Pieces.{line_added, line_begun, lines_begun}
 use Rattle.chan_deck.proofs.listing.write_places.Goals as goal

@@ -1,7 +1,5 @@
-use Rattle.std.proofs.Common.{◌≡◌, ◌++◌, false, string_bytes}
-use Rattle.chan_walk.specs.Job.{storage_of}
+use Rattle.chan_deck.proofs.Names.{AppendsInPieces, false, storage_of, string_bytes, ◌++◌, ◌≡◌}
 use Rattle.chan_deck.specs.Listing.{rows}
-use Rattle.chan_deck.specs.WrittenInPieces.{AppendsInPieces}
 use Rattle.chan_deck.proofs.listing.write_places.Given as goal
 
 abbrev pub invariant-loop-place : goal.invariant-loop-place

@@ -1,8 +1,4 @@
-use Rattle.std.proofs.Common.{refl}
-use Rattle.chan_deck.specs.Reading.{with_lists}
-use Rattle.chan_deck.specs.declared.heading.Heading.{Heading}
-use Rattle.chan_deck.specs.declared.version.Version.TheVariants.{One}
-use Rattle.ckd_core.specs.declared.device.Device.TheVariants.{D2311}
+use Rattle.chan_deck.proofs.Names.{D2311, Heading, One, refl, with_lists}
 use Rattle.chan_deck.proofs.LineRefusals.{was_read}
 use Rattle.chan_deck.proofs.lists.read_lists.Goals as goal
 

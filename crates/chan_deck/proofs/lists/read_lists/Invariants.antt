@@ -1,6 +1,4 @@
-use Rattle.std.proofs.Common.{[], length}
-use Rattle.chan_deck.specs.Reading.{ReadingGoesOn, Listing, with_lists}
-use Rattle.chan_deck.specs.declared.heading.Heading.{Heading}
+use Rattle.chan_deck.proofs.Names.{[], Heading, length, Listing, ReadingGoesOn, with_lists}
 use Rattle.chan_deck.proofs.lists.read_lists.Given as goal
 
 -- the cursor stands behind the lists so far

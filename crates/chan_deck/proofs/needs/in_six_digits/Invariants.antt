@@ -1,5 +1,4 @@
-use Rattle.std.proofs.Common.{◌≡◌, take}
-use Rattle.chan_deck.specs.Needs.{in_six_digits}
+use Rattle.chan_deck.proofs.Names.{in_six_digits, take, ◌≡◌}
 use Rattle.chan_deck.proofs.needs.in_six_digits.Given as goal
 
 abbrev pub invariant-loop-area : goal.invariant-loop-area

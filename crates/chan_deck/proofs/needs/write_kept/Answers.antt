@@ -1,5 +1,4 @@
-use Rattle.std.proofs.Common.{◌∙◌, ◌++◌, ◌∷◌, [], ap}
-use Rattle.chan_deck.specs.Needs.{keep_line}
+use Rattle.chan_deck.proofs.Names.{[], ap, keep_line, ◌++◌, ◌∙◌, ◌∷◌}
 use Rattle.chan_deck.proofs.Parted.{no_more}
 use Rattle.chan_deck.proofs.WriteLemmas.{kept_text}
 use Rattle.chan_deck.proofs.needs.write_kept.Goals as goal

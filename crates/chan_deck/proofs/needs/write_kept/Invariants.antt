@@ -1,6 +1,4 @@
-use Rattle.std.proofs.Common.{◌≡◌, ◌++◌, ◌∷◌, [], take}
-use Rattle.std.specs.List.{flat_map}
-use Rattle.chan_deck.specs.Needs.{keep_line}
+use Rattle.chan_deck.proofs.Names.{[], flat_map, keep_line, take, ◌++◌, ◌∷◌, ◌≡◌}
 use Rattle.chan_deck.proofs.needs.write_kept.Given as goal
 
 abbrev pub invariant-loop-area : goal.invariant-loop-area

@@ -1,11 +1,6 @@
-use Rattle.std.proofs.Common.{◌≡◌, ◌∙◌, ◌∷◌, [], ◌++◌, ap, sym, List, ℕ, add-one, append_assoc}
-use Rattle.std.proofs.Common.{drop, drop-cons, get_or, length, true, false, ◌+◌, ◌<◌, ◌≤◌}
-use Rattle.std.proofs.lemmas.List.{drop_all}
-use Rattle.ccw_core.specs.declared.areas.Area.{Area}
-use Rattle.chan_deck.specs.Notes.{areas_adjoin, joined_from, joined_area}
+use Rattle.chan_deck.proofs.Names.{[], add-one, ap, append_assoc, Area, areas_adjoin, drop, drop-cons, drop_all, false, get_or, joined_area, joined_from, length, List, sym, true, ℕ, ◌++◌, ◌+◌, ◌<◌, ◌∙◌, ◌∷◌, ◌≡◌, ◌≤◌}
 use Rattle.chan_deck.proofs.notes.join_neighbours.Goals as goal
-use Rattle.chan_deck.proofs.notes.join_neighbours.Goals.{then-areas_adjoin}
-use Rattle.chan_deck.proofs.notes.join_neighbours.Goals.{else-areas_adjoin+in_ok-push}
+use Rattle.chan_deck.proofs.notes.join_neighbours.Goals.{then-areas_adjoin, else-areas_adjoin+in_ok-push}
 
 -- an area that adjoins goes into the run
 in_run : (runs whole rest : List Area) (run next : Area) (i : ℕ) (d : Area) → i < length rest

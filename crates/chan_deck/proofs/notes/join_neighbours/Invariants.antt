@@ -1,5 +1,4 @@
-use Rattle.std.proofs.Common.{◌≡◌, ◌++◌, drop}
-use Rattle.chan_deck.specs.Notes.{with_neighbours_joined, joined_from}
+use Rattle.chan_deck.proofs.Names.{drop, joined_from, with_neighbours_joined, ◌++◌, ◌≡◌}
 use Rattle.chan_deck.proofs.notes.join_neighbours.Given as goal
 
 abbrev pub invariant-loop-area : goal.invariant-loop-area

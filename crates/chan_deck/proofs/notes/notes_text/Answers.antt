@@ -1,5 +1,4 @@
-use Rattle.std.proofs.Common.{ap, ◌∙◌}
-use Rattle.chan_deck.specs.Notes.{number_of_hangs}
+use Rattle.chan_deck.proofs.Names.{ap, number_of_hangs, ◌∙◌}
 use Rattle.chan_deck.proofs.NoteLemmas.{counted, grew_none, none_hangs, nothing}
 use Rattle.chan_deck.proofs.notes.notes_text.Goals as goal
 

@@ -1,7 +1,5 @@
 -- With neighbours joined, some areas are some, and none are none.
-use Rattle.std.proofs.Common.{arith, length, string_bytes}
-use Rattle.std.proofs.lemmas.Grind.{common_steps}
-use Rattle.std.proofs.lemmas.Result.{on_ok_weaker}
+use Rattle.chan_deck.proofs.Names.{arith, common_steps, length, on_ok_weaker, string_bytes}
 use Rattle.chan_deck.proofs.NoteLemmas.{all_grew, joined_none, joined_some}
 use Rattle.chan_deck.proofs.notes.push_areas.Goals as goal
 

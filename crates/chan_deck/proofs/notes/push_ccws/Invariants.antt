@@ -1,6 +1,5 @@
 -- The text so far grew by the notes so far.
-use Rattle.std.proofs.Common.{string_bytes}
-use Rattle.chan_deck.specs.Notes.{HasNotesAdded}
+use Rattle.chan_deck.proofs.Names.{HasNotesAdded, string_bytes}
 use Rattle.chan_deck.proofs.notes.push_ccws.Given as goal
 
 abbrev pub invariant-loop-address : goal.invariant-loop-address

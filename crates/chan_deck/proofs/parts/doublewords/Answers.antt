@@ -1,4 +1,4 @@
-use Rattle.std.proofs.Common.{arith}
+use Rattle.chan_deck.proofs.Names.{arith}
 use Rattle.chan_deck.proofs.PartLemmas.{all_bytes, behind_zeros, end_in_storage, on_ok}
 use Rattle.chan_deck.proofs.parts.doublewords.Goals as goal
 

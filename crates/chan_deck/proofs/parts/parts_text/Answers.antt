@@ -1,7 +1,4 @@
-use Rattle.std.proofs.Common.{◌≡◌, ◌∙◌, ◌*◌, ◌/◌, ◌++◌, ap, subst, replicate, List, ℕ}
-use Rattle.chan_deck.specs.Image.{HasLimit, spelling}
-use Rattle.chan_deck.specs.PartsImage.{image_of_parts, storage_with}
-use Rattle.chan_deck.specs.declared.version.Version.{Version}
+use Rattle.chan_deck.proofs.Names.{ap, HasLimit, image_of_parts, List, replicate, spelling, storage_with, subst, Version, ℕ, ◌*◌, ◌++◌, ◌/◌, ◌∙◌, ◌≡◌}
 use Rattle.chan_deck.proofs.PartLemmas.{from_facts, parts_deck}
 use Rattle.chan_deck.proofs.parts.parts_text.Goals as goal
 

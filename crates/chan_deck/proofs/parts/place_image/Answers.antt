@@ -1,8 +1,4 @@
-use Rattle.std.proofs.Common.{◌≡◌, ◌∙◌, ◌+◌, ◌++◌, ap, length, take, drop, replicate, List, ℕ}
-use Rattle.std.proofs.Common.{rules}
-use Rattle.std.specs.Int.{next_multiple_of}
-use Rattle.std.proofs.lemmas.List.{take_at}
-use Rattle.chan_deck.specs.PartsImage.{zeros}
+use Rattle.chan_deck.proofs.Names.{ap, drop, length, List, next_multiple_of, replicate, rules, take, take_at, zeros, ℕ, ◌++◌, ◌+◌, ◌∙◌, ◌≡◌}
 use Rattle.chan_deck.proofs.PartLemmas.{storage_fits, storage_is}
 use Rattle.chan_deck.proofs.parts.place_image.Goals as goal
 

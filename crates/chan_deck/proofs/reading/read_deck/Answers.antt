@@ -1,7 +1,4 @@
-use Rattle.std.proofs.Common.{◌≡◌, Err, inl, refl, rules}
-use Rattle.std.proofs.lemmas.Result.{err_from_is_err_and}
-use Rattle.chan_deck.specs.Image.{Spells}
-use Rattle.chan_deck.specs.Reading.{image_of}
+use Rattle.chan_deck.proofs.Names.{Err, err_from_is_err_and, image_of, inl, refl, rules, Spells, ◌≡◌}
 use Rattle.chan_deck.specs.declared.error.DeckError.TheVariants.{Memory}
 use Rattle.chan_deck.proofs.RefusalLemmas.{refusal_only, same_deck}
 use Rattle.chan_deck.proofs.reading.read_deck.Goals as goal

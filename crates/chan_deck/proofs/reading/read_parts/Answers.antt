@@ -1,8 +1,5 @@
-use Rattle.std.proofs.Common.{◌≡◌, ◌++◌, [], length, take, drop, sym, subst, ◌∙◌}
-use Rattle.std.proofs.lemmas.List.{take_at}
-use Rattle.std.proofs.lemmas.Result.{err_from_is_err_and}
-use Rattle.chan_deck.specs.Image.{Spells}
-use Rattle.chan_deck.specs.Reading.{Filling, HasReadTo, image_of}
+use Rattle.chan_deck.proofs.Names.{[], drop, err_from_is_err_and, Filling, image_of, length, Spells, subst, sym, take, take_at, ◌++◌, ◌∙◌, ◌≡◌}
+use Rattle.chan_deck.specs.Reading.{HasReadTo}
 use Rattle.chan_deck.proofs.reading.read_parts.Goals as goal
 use Rattle.chan_deck.proofs.reading.read_parts.Goals.{After-fill}
 

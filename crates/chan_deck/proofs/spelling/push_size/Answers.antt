@@ -1,6 +1,4 @@
-use Rattle.std.proofs.Common.{◌∙◌, ap, arith, length}
-use Rattle.std.specs.Int.{w32, to_be_bytes}
-use Rattle.hex.specs.Hex.{encode_upper}
+use Rattle.chan_deck.proofs.Names.{ap, arith, encode_upper, length, to_be_bytes, w32, ◌∙◌}
 use Rattle.chan_deck.proofs.UpperDigits.{length-encode_upper}
 use Rattle.chan_deck.proofs.spelling.push_size.Goals as goal
 

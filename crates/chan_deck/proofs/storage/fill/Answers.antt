@@ -1,15 +1,9 @@
-use Rattle.std.proofs.Common.{◌≡◌, ◌+◌, ◌++◌, ◌≤◌, length, take, drop, subst, ◌∙◌, arith, refl}
-use Rattle.std.specs.Int.{w64, to_be_bytes}
-use Rattle.std.proofs.lemmas.List.{length-take}
-use Rattle.chan_deck.specs.Reading.{Filling, Whole, image_of}
+use Rattle.chan_deck.proofs.Names.{arith, drop, Filling, image_of, length, length-take, refl, subst, take, to_be_bytes, w64, Whole, ◌++◌, ◌+◌, ◌∙◌, ◌≡◌, ◌≤◌}
 use Rattle.chan_deck.proofs.LineRefusals.{no_put}
-use Rattle.chan_deck.proofs.FillLemmas.{zero_word, some_word, bad_place, zero_put, written}
-use Rattle.chan_deck.proofs.FillLemmas.{put_goes, end_goes}
+use Rattle.chan_deck.proofs.FillLemmas.{zero_word, some_word, bad_place, zero_put, written, put_goes, end_goes}
 use Rattle.chan_deck.specs.declared.cause.Cause.TheVariants as causes
 use Rattle.chan_deck.proofs.storage.fill.Goals as goal
-use Rattle.chan_deck.proofs.storage.fill.Goals.{then-address-ne0-via-then-address-ne0}
-use Rattle.chan_deck.proofs.storage.fill.Goals.{then-address-ne0-via-else-address-ne0+then-address-next}
-use Rattle.chan_deck.proofs.storage.fill.Goals.{then-address-ne0-via-else-address-ne0+else-address-next+then-storage-address}
+use Rattle.chan_deck.proofs.storage.fill.Goals.{then-address-ne0-via-then-address-ne0, then-address-ne0-via-else-address-ne0+then-address-next, then-address-ne0-via-else-address-ne0+else-address-next+then-storage-address}
 
 pub loop-address-preserved : goal.loop-address-preserved
 loop-address-preserved c =

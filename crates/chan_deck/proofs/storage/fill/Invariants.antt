@@ -1,7 +1,4 @@
-use Rattle.std.proofs.Common.{◌≡◌, ◌≤◌, ◌-◌, ℕ, List, [], length, take, drop, replicate}
-use Rattle.ccw_core.specs.declared.areas.Area.{Area}
-use Rattle.chan_deck.specs.Reading.{Filling, ReadingGoesOn}
-use Rattle.chan_deck.specs.declared.heading.Heading.{Heading}
+use Rattle.chan_deck.proofs.Names.{[], Area, drop, Filling, Heading, length, List, ReadingGoesOn, replicate, take, ℕ, ◌-◌, ◌≡◌, ◌≤◌}
 use Rattle.chan_deck.proofs.storage.fill.Given as goal
 
 -- the cursor stands behind what storage has so far

@@ -1,4 +1,4 @@
-use Rattle.std.proofs.Common.{◌++◌, replicate}
+use Rattle.chan_deck.proofs.Names.{replicate, ◌++◌}
 use Rattle.chan_deck.specs.PreambleImage.{image_of_preamble}
 use Rattle.chan_deck.proofs.WriteLemmas.{length_behind, puts_behind, spelling_parts}
 use Rattle.chan_deck.proofs.writing.text_of.Goals as goal

@@ -1,7 +1,5 @@
-use Rattle.std.proofs.Common.{◌∙◌, ◌∷◌, ◌++◌, [], ap, arith}
+use Rattle.chan_deck.proofs.Names.{[], ap, arith, extent_of, line, ◌++◌, ◌∙◌, ◌∷◌}
 use Rattle.ckd_core.proofs.CylinderLemmas.{extent_at}
-use Rattle.chan_deck.specs.Item.{line}
-use Rattle.chan_deck.specs.Image.{extent_of}
 use Rattle.chan_deck.proofs.Parted.{no_more}
 use Rattle.chan_deck.proofs.WriteLemmas.{each_text}
 use Rattle.chan_deck.proofs.writing.write_extents.Goals as goal

@@ -1,7 +1,4 @@
-use Rattle.std.proofs.Common.{◌≡◌, ◌++◌, ◌∷◌, [], take}
-use Rattle.std.specs.List.{flat_map}
-use Rattle.chan_deck.specs.Item.{line}
-use Rattle.chan_deck.specs.Image.{extent_of}
+use Rattle.chan_deck.proofs.Names.{[], extent_of, flat_map, line, take, ◌++◌, ◌∷◌, ◌≡◌}
 use Rattle.chan_deck.proofs.writing.write_extents.Given as goal
 
 abbrev pub invariant-loop-pair : goal.invariant-loop-pair

@@ -1,5 +1,4 @@
-use Rattle.std.proofs.Common.{◌∙◌, ◌++◌, ◌∷◌, [], ap}
-use Rattle.chan_deck.specs.Item.{fetch, line}
+use Rattle.chan_deck.proofs.Names.{[], ap, fetch, line, ◌++◌, ◌∙◌, ◌∷◌}
 use Rattle.chan_deck.proofs.Parted.{no_more}
 use Rattle.chan_deck.proofs.WriteLemmas.{each_text}
 use Rattle.chan_deck.proofs.writing.write_fetch.Goals as goal

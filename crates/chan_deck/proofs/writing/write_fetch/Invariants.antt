@@ -1,6 +1,4 @@
-use Rattle.std.proofs.Common.{◌≡◌, ◌++◌, ◌∷◌, [], take}
-use Rattle.std.specs.List.{flat_map}
-use Rattle.chan_deck.specs.Item.{fetch, line}
+use Rattle.chan_deck.proofs.Names.{[], fetch, flat_map, line, take, ◌++◌, ◌∷◌, ◌≡◌}
 use Rattle.chan_deck.proofs.writing.write_fetch.Given as goal
 
 abbrev pub invariant-loop-area : goal.invariant-loop-area

@@ -1,7 +1,4 @@
-use Rattle.std.proofs.Common.{◌∷◌, [], ◌++◌, ◌∙◌, arith, map}
-use Rattle.std.proofs.lemmas.Result.{on_ok_weaker}
-use Rattle.chan_deck.specs.Item.{line, text, header, device, mask, start}
-use Rattle.chan_deck.specs.Image.{header_of, limit_line}
+use Rattle.chan_deck.proofs.Names.{[], arith, device, header, header_of, limit_line, line, map, mask, on_ok_weaker, start, text, ◌++◌, ◌∙◌, ◌∷◌}
 use Rattle.chan_deck.proofs.WriteLemmas.{five_parts}
 use Rattle.chan_deck.proofs.writing.write_heading.Goals as goal
 

@@ -1,4 +1,4 @@
-use Rattle.std.proofs.Common.{◌∙◌, sym, arith}
+use Rattle.chan_deck.proofs.Names.{arith, sym, ◌∙◌}
 use Rattle.chan_deck.proofs.WriteLemmas.{puts_more, no_puts_left}
 use Rattle.chan_deck.proofs.writing.write_puts.Goals as goal
 

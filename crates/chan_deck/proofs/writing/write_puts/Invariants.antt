@@ -1,8 +1,5 @@
-use Rattle.std.proofs.Common.{◌≡◌, ◌+◌, ◌++◌, ◌/◌, ◌≤◌, length, map}
-use Rattle.chan_deck.specs.Item.{line, text}
-use Rattle.chan_deck.specs.Image.{puts}
+use Rattle.chan_deck.proofs.Names.{length, line, map, puts, STORAGE_LIMIT, text, ◌++◌, ◌+◌, ◌/◌, ◌≡◌, ◌≤◌}
 use Rattle.chan_deck.proofs.writing.write_puts.Given as goal
-use Rattle.ccw_core.specs.declared.ccw.TheConstants.{STORAGE_LIMIT}
 
 -- what is written and what is left to write are all
 abbrev pub invariant-loop-rest : goal.invariant-loop-rest

@@ -1,6 +1,5 @@
 -- The pairs so far are those of the extents so far.
-use Rattle.std.proofs.Common.{◌≡◌, map, take}
-use Rattle.chan_needs.specs.Listed.{pair}
+use Rattle.chan_needs.proofs.Names.{map, pair, take, ◌≡◌}
 use Rattle.chan_needs.proofs.layout.pairs_of.Given as goal
 
 abbrev pub invariant-loop-extent : goal.invariant-loop-extent

@@ -1,8 +1,7 @@
-use Rattle.chan_needs.proofs.Names.{arith, drop, end_of, get_or, IsMerged, length, subst, suc, ℕ}
-use Rattle.chan_needs.proofs.Names.{◌+◌, ◌<◌, ◌≡◌}
+use Rattle.chan_needs.proofs.Names.{arith, drop, end_of, get_or, IsMerged, length, merged_len, subst, suc, ℕ, ◌+◌, ◌<◌, ◌≡◌}
 use Rattle.chan_needs.proofs.Holding.{nowhere}
 use Rattle.chan_needs.proofs.Leasts.{merged_from}
-use Rattle.chan_areas.proofs.Searching.{merged_len, merged_order}
+use Rattle.chan_areas.proofs.Searching.{merged_order}
 use Rattle.chan_needs.proofs.least_bytes.are_merged.Goals as goal
 
 pub returns-then-areas-i-eq0 : goal.returns-then-areas-i-eq0

@@ -1,6 +1,5 @@
-use Rattle.chan_needs.proofs.Names.{false, None, Option, refl, Some, sym, ℕ, ◌∙◌, ◌≡◌}
+use Rattle.chan_needs.proofs.Names.{false, lesser_of, None, Option, refl, Some, sym, ℕ, ◌∙◌, ◌≡◌}
 use Rattle.std.specs.Prelude.{is_some}
-use Rattle.chan_needs.specs.LeastBytes.{lesser_of}
 use Rattle.chan_needs.proofs.Leasts.{least_area}
 use Rattle.chan_needs.proofs.least_bytes.least_in.Goals.{then-is_some, else-is_some}
 use Rattle.chan_needs.proofs.least_bytes.least_in.Goals as goal

@@ -1,5 +1,4 @@
-use Rattle.chan_needs.proofs.Names.{false, has_cylinder, IsLeastOrNone, map, take, true, ◌≡◌}
-use Rattle.chan_needs.specs.Listed.{pair}
+use Rattle.chan_needs.proofs.Names.{false, has_cylinder, IsLeastOrNone, map, pair, take, true, ◌≡◌}
 use Rattle.chan_needs.proofs.least_bytes.least_outside.Given as goal
 
 abbrev pub invariant-loop-run : goal.invariant-loop-run

@@ -1,4 +1,4 @@
-use Rattle.chan_areas.proofs.Gaps.{least_same}
+use Rattle.chan_needs.proofs.Names.{least_same}
 use Rattle.chan_needs.proofs.Leasts.{least_area}
 use Rattle.chan_needs.proofs.least_bytes.least_shared.Goals as goal
 

@@ -1,5 +1,4 @@
-use Rattle.chan_needs.proofs.Names.{ap, option_map, rules, sym, ◌∙◌}
-use Rattle.ckd_core.specs.Entries.{entry_of}
+use Rattle.chan_needs.proofs.Names.{ap, entry_of, option_map, rules, sym, ◌∙◌}
 use Rattle.chan_needs.proofs.Demanding.{bounds_byte, bounds_class, bounds_nothing}
 use Rattle.chan_needs.proofs.needed_mask.demanded.Goals as goal
 

@@ -1,7 +1,5 @@
-use Rattle.chan_needs.proofs.Names.{AreBounds, arith, List, Place, places_of_looks, rules, subst}
-use Rattle.chan_needs.proofs.Names.{take}
+use Rattle.chan_needs.proofs.Names.{AreBounds, arith, List, look_of, Place, places_next, places_of_looks, places_taken, rules, subst, take}
 use Rattle.chan_needs.proofs.Demanding.{ServesEach, clear_at, bounds_first, bounds_next}
-use Rattle.chan_walk.proofs.Algorithms.Looking.{look_of, places_next, places_taken}
 use Rattle.chan_needs.proofs.Masking.{strictest}
 use Rattle.chan_needs.proofs.needed_mask.needed_mask.Goals as goal
 

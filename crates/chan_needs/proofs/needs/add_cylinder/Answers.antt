@@ -1,5 +1,4 @@
-use Rattle.chan_needs.proofs.Names.{ap, [], ◌++◌, ◌∙◌, ◌∷◌}
-use Rattle.chan_walk.specs.Guard.{byte_area}
+use Rattle.chan_needs.proofs.Names.{[], ap, byte_area, ◌++◌, ◌∙◌, ◌∷◌}
 use Rattle.chan_needs.proofs.Seeking.{adds_cylinder, adds_nothing}
 use Rattle.chan_needs.proofs.needs.add_cylinder.Goals as goal
 

@@ -1,9 +1,7 @@
-use Rattle.chan_needs.proofs.Names.{ap, cylinder_of, option_map, Some, subst, sym, ◌∙◌}
-use Rattle.ckd_core.specs.Entries.{entry_of}
+use Rattle.chan_needs.proofs.Names.{ap, cylinder_of, entry_of, option_map, Some, subst, sym, ◌∙◌}
 use Rattle.chan_walk.specs.declared.argument.GivenBytes.{GivenBytes}
 use Rattle.chan_walk.specs.Operand.{whole_of}
-use Rattle.chan_needs.proofs.Seeking.{GoesTo, goes_by_none, goes_by_other, goes_home, goes_seeking}
-use Rattle.chan_needs.proofs.Seeking.{is_other, is_seek_of}
+use Rattle.chan_needs.proofs.Seeking.{GoesTo, goes_by_none, goes_by_other, goes_home, goes_seeking, is_other, is_seek_of}
 use Rattle.chan_needs.proofs.needs.cylinder.Goals as goal
 
 pub returns-in_err-command : goal.returns-in_err-command

@@ -1,11 +1,8 @@
-use Rattle.chan_needs.proofs.Names.{AreExactly, IsGuarded, IsStoredInto, subst, sym}
+use Rattle.chan_needs.proofs.Names.{ap, AreExactly, IsFetchedFrom, IsGuarded, IsStoredInto, map, pair, subst, sym}
 use Rattle.chan_walk.specs.Guard.{GuardAreas, Guards}
-use Rattle.chan_walk.specs.Moved.{IsFetchedFrom}
 use Rattle.chan_walk.proofs.Algorithms.Listing.{first_is_verdict}
 use Rattle.chan_needs.proofs.Needed.{are_needs, survey_looks}
 use Rattle.chan_needs.proofs.needs.needs_from.Goals as goal
-use Rattle.chan_needs.specs.Listed.{pair}
-use Rattle.std.proofs.Common.{ap, map}
 
 pub returns : goal.returns
 returns c j one =

@@ -1,6 +1,4 @@
-use Rattle.chan_needs.proofs.Names.{All, arith, subst, sym, ◌+◌, ◌^◌}
-use Rattle.chan_areas.specs.Merged.{EndsBelow}
-use Rattle.chan_areas.proofs.Searching.{merged_len}
+use Rattle.chan_needs.proofs.Names.{All, arith, EndsBelow, merged_len, subst, sym, ◌+◌, ◌^◌}
 use Rattle.chan_needs.proofs.Holding.{nowhere}
 use Rattle.chan_needs.proofs.needs.runs.Goals as goal
 

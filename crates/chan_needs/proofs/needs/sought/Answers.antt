@@ -1,10 +1,8 @@
-use Rattle.chan_needs.proofs.Names.{Area, arith, HoldBytes, List, Place, places_of_looks, rules}
-use Rattle.chan_needs.proofs.Names.{SeeksCylinder, subst, sym, take, ◌+◌, ◌^◌}
+use Rattle.chan_needs.proofs.Names.{Area, arith, HoldBytes, List, look_of, Place, places_next, places_of_looks, places_taken, rules, SeeksCylinder, subst, sym, take, ◌+◌, ◌^◌}
 use Rattle.std.proofs.lemmas.Result.{IfOk-weaker}
 use Rattle.chan_needs.proofs.Demanding.{clear_at}
 use Rattle.chan_walk.proofs.Algorithms.Guarding.{hold_more, hold_none, hold_same, low_none}
 use Rattle.chan_areas.proofs.Merging.{exactly_low}
-use Rattle.chan_walk.proofs.Algorithms.Looking.{look_of, places_next, places_taken}
 use Rattle.chan_needs.proofs.Seeking.{sought_all}
 use Rattle.chan_needs.proofs.needs.sought.Goals as goal
 

@@ -1,6 +1,4 @@
-use Rattle.chan_needs.proofs.Names.{All, AreLooksOfYes, HoldBytes, Job, places_of_looks}
-use Rattle.chan_needs.proofs.Names.{SeeksCylinder, take, ◌+◌, ◌^◌}
-use Rattle.chan_areas.specs.Merged.{EndsBelow}
+use Rattle.chan_needs.proofs.Names.{All, AreLooksOfYes, EndsBelow, HoldBytes, Job, places_of_looks, SeeksCylinder, take, ◌+◌, ◌^◌}
 use Rattle.chan_needs.proofs.needs.sought.Given as goal
 
 abbrev pub invariant-loop-look : goal.invariant-loop-look

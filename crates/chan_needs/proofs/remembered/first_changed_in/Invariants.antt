@@ -1,5 +1,4 @@
-use Rattle.chan_needs.proofs.Names.{bytes_held, ℕ, ◌<◌}
-use Rattle.chan_needs.specs.Remembered.{HoldsByte}
+use Rattle.chan_needs.proofs.Names.{bytes_held, HoldsByte, ℕ, ◌<◌}
 use Rattle.chan_needs.proofs.remembered.first_changed_in.Given as goal
 
 abbrev pub invariant-loop-i : goal.invariant-loop-i

@@ -1,5 +1,4 @@
-use Rattle.chan_needs.proofs.Names.{bytes_held, rules}
-use Rattle.chan_needs.proofs.Names.{◌≡◌}
+use Rattle.chan_needs.proofs.Names.{bytes_held, rules, ◌≡◌}
 use Rattle.chan_needs.proofs.Copied.{area_read, range_read, same_bytes}
 use Rattle.chan_needs.proofs.remembered.is_held.Goals as goal
 

@@ -1,5 +1,5 @@
 -- The sum stays below the end of the area.
-use Rattle.chan_needs.proofs.Names.{arith, get_or, ◌+◌, ◌∙◌, sym, ap}
+use Rattle.chan_needs.proofs.Names.{ap, arith, get_or, sym, ◌+◌, ◌∙◌}
 use Rattle.chan_needs.proofs.Holding.{nowhere}
 use Rattle.chan_needs.proofs.Inside.{total_fits, total_next}
 use Rattle.chan_needs.proofs.remembered.kept_len.Goals as goal

@@ -1,6 +1,5 @@
 -- So many bytes the areas so far have.
-use Rattle.chan_needs.proofs.Names.{take, ◌≡◌}
-use Rattle.chan_needs.specs.Remembered.{total_len}
+use Rattle.chan_needs.proofs.Names.{take, total_len, ◌≡◌}
 use Rattle.chan_needs.proofs.remembered.kept_len.Given as goal
 
 abbrev pub invariant-loop-area : goal.invariant-loop-area

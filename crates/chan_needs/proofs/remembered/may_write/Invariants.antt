@@ -1,5 +1,4 @@
-use Rattle.std.specs.List.{AllWithin}
-use Rattle.chan_needs.specs.Remembered.{KeepsNone}
+use Rattle.chan_needs.proofs.Names.{AllWithin, KeepsNone}
 use Rattle.chan_needs.proofs.remembered.may_write.Given as goal
 
 abbrev pub invariant-loop-i : goal.invariant-loop-i

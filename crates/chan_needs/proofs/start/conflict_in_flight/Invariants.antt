@@ -1,5 +1,4 @@
-use Rattle.std.specs.List.{AllWithin}
-use Rattle.chan_needs.specs.Start.{IsCompatibleWith}
+use Rattle.chan_needs.proofs.Names.{AllWithin, IsCompatibleWith}
 use Rattle.chan_needs.proofs.start.conflict_in_flight.Given as goal
 
 abbrev pub invariant-loop-i : goal.invariant-loop-i

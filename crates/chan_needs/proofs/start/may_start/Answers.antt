@@ -1,5 +1,4 @@
-use Rattle.chan_needs.proofs.Names.{rules, storage_of}
-use Rattle.chan_needs.specs.Start.{IsFit}
+use Rattle.chan_needs.proofs.Names.{IsFit, rules, storage_of}
 use Rattle.chan_needs.proofs.Kept.{never_changed}
 use Rattle.chan_needs.proofs.Remembering.{starts_well}
 use Rattle.chan_needs.proofs.start.may_start.Goals as goal

@@ -1,6 +1,5 @@
 use Rattle.std.proofs.Common.{inl, inr, rules}
-use Rattle.chan_run.proofs.advice.exchange_text.Goals.{then-branch+in_ok-extend_from_slice}
-use Rattle.chan_run.proofs.advice.exchange_text.Goals.{else-branch}
+use Rattle.chan_run.proofs.advice.exchange_text.Goals.{then-branch+in_ok-extend_from_slice, else-branch}
 use Rattle.chan_run.proofs.advice.exchange_text.Goals as goal
 
 pub returns : goal.returns

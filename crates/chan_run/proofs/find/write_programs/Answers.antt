@@ -69,11 +69,7 @@ returns-clause-answer g c =
     let (sound, (text, lines, app)) = c.loop-start.invariant in (
       starts.result.now,
       starts_over o image _ _ _ held starts.ensures.value c.in-Ok-program_starts.ensures.starts,
-      record {
-        text = text;
-        lines = rw (take_all _ _ c.loop-start-test.false) at lines;
-        written = app;
-      },
+      record { text = text; lines = rw (take_all _ _ c.loop-start-test.false) at lines; written = app },
     )
 
 pub returns-clause-note : goal.returns-clause-note

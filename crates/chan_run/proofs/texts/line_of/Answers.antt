@@ -1,5 +1,4 @@
-use Rattle.std.proofs.Common.{[], IsOk, Ok, Err, Result, ap, arith, false, length, sym, true, ◌∙◌}
-use Rattle.std.proofs.Common.{◌≡◌}
+use Rattle.std.proofs.Common.{[], IsOk, Ok, Err, Result, ap, arith, false, length, sym, true, ◌∙◌, ◌≡◌}
 use Rattle.std.specs.Result.{is_err}
 use Rattle.chan_run.proofs.Writing.{no_longer}
 use Rattle.chan_run.proofs.texts.line_of.Goals as goal

@@ -1,8 +1,5 @@
-use Rattle.chan_walk.proofs.Names.{ap, arith, bytes_held, ccw, get_or, refl, rules, subst, sym, ℕ}
-use Rattle.chan_walk.proofs.Names.{◌+◌, ◌-◌, ◌<◌, ◌∙◌, ◌≡◌}
-use Rattle.chan_walk.specs.Operand.{onward}
-use Rattle.chan_walk.proofs.Algorithms.Following.{IsEnded, IsGiven, completes, ended_short}
-use Rattle.chan_walk.proofs.Algorithms.Following.{ends_before, ends_here, given_none, goes_further}
+use Rattle.chan_walk.proofs.Names.{ap, arith, bytes_held, ccw, get_or, onward, refl, rules, subst, sym, ℕ, ◌+◌, ◌-◌, ◌<◌, ◌∙◌, ◌≡◌}
+use Rattle.chan_walk.proofs.Algorithms.Following.{IsEnded, IsGiven, completes, ended_short, ends_before, ends_here, given_none, goes_further}
 use Rattle.chan_walk.proofs.argument.front_of.Goals as goal
 
 pub loop-part-init : goal.loop-part-init

@@ -1,5 +1,4 @@
-use Rattle.chan_walk.proofs.Names.{bytes_held, ccw_at, length, Some, ◌-◌, ◌<◌, ◌≡◌}
-use Rattle.chan_walk.specs.Operand.{AreZeroFrom}
+use Rattle.chan_walk.proofs.Names.{AreZeroFrom, bytes_held, ccw_at, length, Some, ◌-◌, ◌<◌, ◌≡◌}
 use Rattle.chan_walk.proofs.Algorithms.Following.{IsGiven}
 use Rattle.chan_walk.proofs.argument.front_of.Given as goal
 

@@ -1,6 +1,4 @@
-use Rattle.chan_walk.proofs.Names.{ap, false, Fields, inhibits, is_fresh, lookup, refl, Some, sym}
-use Rattle.chan_walk.proofs.Names.{true, ◌∙◌, ◌≡◌}
-use Rattle.std.proofs.Common.{option_map}
+use Rattle.chan_walk.proofs.Names.{ap, false, Fields, inhibits, is_fresh, lookup, option_map, refl, Some, sym, true, ◌∙◌, ◌≡◌}
 use Rattle.ckd_core.specs.Entries.{entry_of}
 use Rattle.ckd_core.proofs.TableLemmas.{inhibits-class}
 use Rattle.chan_walk.proofs.Algorithms.Visiting.{begun-fresh}

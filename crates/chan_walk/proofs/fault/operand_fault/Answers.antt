@@ -1,21 +1,8 @@
-use Rattle.std.proofs.Common.{◌≡◌, ◌&&◌, not, true, false, Some, refl, sym, ap, ◌∙◌, subst, inl}
-use Rattle.std.proofs.Common.{inr, rules}
-use Rattle.ccw_core.specs.Ccw.{Fields, byte}
-use Rattle.ckd_core.specs.Extents.{has_cylinder}
-use Rattle.ckd_core.specs.Mask.{is_at_least}
-use Rattle.chan_walk.specs.Argument.{HasArgument}
-use Rattle.chan_walk.specs.Fault.{begins_recalibrate, begins_seek}
-use Rattle.chan_walk.specs.Job.{extents_of, storage_of}
-use Rattle.chan_walk.specs.Operand.{IsOperand}
-use Rattle.chan_walk.specs.Machine.{home}
-use Rattle.chan_walk.specs.declared.argument.Operand.{Operand}
-use Rattle.chan_walk.proofs.Theory.Found.{found_here, home_allowed, home_refused, mask_strict}
-use Rattle.chan_walk.proofs.Theory.Found.{mask_weak, seek_allowed, seek_refused}
+use Rattle.chan_walk.proofs.Names.{ap, begins_recalibrate, begins_seek, byte, extents_of, false, Fields, has_cylinder, HasArgument, home, inl, inr, is_at_least, IsOperand, not, Operand, refl, rules, Some, storage_of, subst, sym, true, ◌&&◌, ◌∙◌, ◌≡◌}
+use Rattle.chan_walk.proofs.Theory.Found.{found_here, home_allowed, home_refused, mask_strict, mask_weak, seek_allowed, seek_refused}
 use Rattle.chan_walk.proofs.Theory.Chains.{argument_exists}
 use Rattle.chan_walk.proofs.fault.operand_fault.Goals as goal
-use Rattle.chan_walk.proofs.fault.operand_fault.Goals.{in_default-via-in-Nothing+then-begins_recalibrate+else-not-has}
-use Rattle.chan_walk.proofs.fault.operand_fault.Goals.{in_default-via-in-Nothing+else-begins_recalibrate}
-use Rattle.chan_walk.proofs.fault.operand_fault.Goals.{in_default-via-in-Mask+else-not-is_strict}
+use Rattle.chan_walk.proofs.fault.operand_fault.Goals.{in_default-via-in-Nothing+then-begins_recalibrate+else-not-has, in_default-via-in-Nothing+else-begins_recalibrate, in_default-via-in-Mask+else-not-is_strict}
 
 pub returns-in-Nothing : goal.returns-in-Nothing
 returns-in-Nothing c =

@@ -1,11 +1,7 @@
-use Rattle.std.proofs.Common.{◌≡◌, false, ap, ◌∙◌, List, ℕ, Option, rules}
+use Rattle.chan_walk.proofs.Names.{allows, ap, extents_of, false, heads, Job, List, Option, rules, Track, track_of, ℕ, ◌∙◌, ◌≡◌}
 use Rattle.std.specs.Option.{option_map_or}
-use Rattle.ckd_core.specs.Track.{is_allowed_track, track_of}
-use Rattle.ckd_core.specs.declared.track.Track.{Track}
+use Rattle.ckd_core.specs.Track.{is_allowed_track}
 use Rattle.ckd_core.proofs.ArgumentLemmas.{is_allowed-track_of}
-use Rattle.chan_walk.specs.declared.job.Job.{Job}
-use Rattle.chan_walk.specs.Fault.{allows}
-use Rattle.chan_walk.specs.Job.{extents_of, heads}
 use Rattle.chan_walk.proofs.Theory.Found.{track_parts}
 use Rattle.chan_walk.proofs.fault.outside_of.Goals as goal
 

@@ -1,6 +1,4 @@
-use Rattle.chan_walk.proofs.Names.{ap, data_of, false, Fields, has_data_in, has_count, is_formed}
-use Rattle.chan_walk.proofs.Names.{is_fresh, is_transfer, length, refl, storage_of, sym, true, ◌%◌}
-use Rattle.chan_walk.proofs.Names.{◌&&◌, ◌∙◌, ◌≡◌}
+use Rattle.chan_walk.proofs.Names.{ap, data_of, false, Fields, has_count, has_data_in, is_formed, is_fresh, is_transfer, length, refl, storage_of, sym, true, ◌%◌, ◌&&◌, ◌∙◌, ◌≡◌}
 use Rattle.ccw_core.specs.Ccw.{is_invalid}
 use Rattle.chan_walk.proofs.Theory.CheckCases.{check-found}
 use Rattle.chan_walk.proofs.Theory.Found.{found_here}

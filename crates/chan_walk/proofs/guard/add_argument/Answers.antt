@@ -1,7 +1,6 @@
-use Rattle.chan_walk.proofs.Names.{ap, IsArgumentByteOf, map, ◌++◌, ◌^◌, ◌∙◌}
+use Rattle.chan_walk.proofs.Names.{ap, byte_area, IsArgumentByteOf, map, ◌++◌, ◌^◌, ◌∙◌}
 use Rattle.std.proofs.lemmas.Result.{on_ok_weaker}
 use Rattle.chan_walk.specs.Look.{argument_seen}
-use Rattle.chan_walk.specs.Guard.{byte_area}
 use Rattle.chan_walk.proofs.Algorithms.Guarding.{adds_areas, lies_in-bytes, low_bytes, low_more}
 use Rattle.chan_walk.proofs.guard.add_argument.Goals as goal
 

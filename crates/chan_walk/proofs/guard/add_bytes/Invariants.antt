@@ -1,5 +1,4 @@
-use Rattle.chan_walk.proofs.Names.{map, take, ◌++◌, ◌≡◌}
-use Rattle.chan_walk.specs.Guard.{byte_area}
+use Rattle.chan_walk.proofs.Names.{byte_area, map, take, ◌++◌, ◌≡◌}
 use Rattle.chan_walk.proofs.guard.add_bytes.Given as goal
 
 abbrev pub invariant-loop-address : goal.invariant-loop-address

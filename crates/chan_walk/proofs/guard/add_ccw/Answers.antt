@@ -1,5 +1,4 @@
-use Rattle.chan_walk.proofs.Names.{ap, Area, EndsBelow, IsCcwByteOf, Place, storage_of, sym, []}
-use Rattle.chan_walk.proofs.Names.{◌++◌, ◌^◌, ◌∙◌, ◌∷◌}
+use Rattle.chan_walk.proofs.Names.{[], ap, Area, EndsBelow, IsCcwByteOf, Place, storage_of, sym, ◌++◌, ◌^◌, ◌∙◌, ◌∷◌}
 use Rattle.chan_walk.proofs.Algorithms.Guarding.{adds_areas, bytes_of_ccw, low_more, stands_low}
 use Rattle.chan_walk.proofs.Algorithms.Looking.{seen_stands}
 use Rattle.chan_areas.proofs.Merging.{all_one}

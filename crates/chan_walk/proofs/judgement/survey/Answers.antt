@@ -25,12 +25,7 @@ returns-clause-survey c =
     let r = reached_looks j c.in_ok-walk.walk.looks.items c.as_slice-2.result.now
     c.in_ok-walk.walk.found_from.items c.in_ok-walk.ensures.found c.as_slice-2.ensures.value in
     let guards = c.in_ok-guard.ensures j a.0 a.1 in
-    record {
-      proper = c.show_proper.ensures;
-      found = c.in_ok-walk.ensures.found;
-      guard = guards;
-      offences = c.in_ok-offences.ensures j r.0 r.1 guards;
-    }
+    record { proper = c.show_proper.ensures; found = c.in_ok-walk.ensures.found; guard = guards; offences = c.in_ok-offences.ensures j r.0 r.1 guards }
 
 pub returns-clause-answer : goal.returns-clause-answer
 returns-clause-answer c =

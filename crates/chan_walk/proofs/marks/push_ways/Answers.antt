@@ -1,6 +1,5 @@
-use Rattle.chan_walk.proofs.Names.{ap, arith, bit_at, subst, sym, [], ◌++◌, ◌+◌, ◌-◌, ◌∙◌, ◌∷◌, ◌≡◌}
+use Rattle.chan_walk.proofs.Names.{[], ap, arith, bit_at, place_at, subst, sym, ways, ◌++◌, ◌+◌, ◌-◌, ◌∙◌, ◌∷◌, ◌≡◌}
 use Rattle.std.proofs.lemmas.Nat.Bits.{shr_and_one}
-use Rattle.chan_walk.specs.Marks.{ways, place_at}
 use Rattle.chan_walk.proofs.Algorithms.InOrder.{ways_next, ways_skip, ways_done}
 use Rattle.chan_walk.proofs.marks.push_ways.Goals.{then-bits-way-eq1+in_ok-push, else-bits-way-eq1}
 use Rattle.chan_walk.proofs.marks.push_ways.Goals as goal

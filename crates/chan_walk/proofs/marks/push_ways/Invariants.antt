@@ -1,5 +1,4 @@
-use Rattle.chan_walk.proofs.Names.{◌++◌, ◌-◌, ◌≡◌}
-use Rattle.chan_walk.specs.Marks.{ways}
+use Rattle.chan_walk.proofs.Names.{ways, ◌++◌, ◌-◌, ◌≡◌}
 use Rattle.chan_walk.proofs.marks.push_ways.Given as goal
 
 abbrev pub invariant-loop-way : goal.invariant-loop-way

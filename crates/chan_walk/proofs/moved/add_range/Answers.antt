@@ -1,5 +1,4 @@
-use Rattle.chan_walk.proofs.Names.{ap, Area, data_of, sym, [], ◌++◌, ◌∙◌, ◌∷◌}
-use Rattle.chan_walk.specs.Moved.{IsSeenByte}
+use Rattle.chan_walk.proofs.Names.{[], ap, Area, data_of, IsSeenByte, sym, ◌++◌, ◌∙◌, ◌∷◌}
 use Rattle.chan_walk.proofs.Algorithms.Guarding.{adds_areas}
 use Rattle.chan_walk.proofs.Algorithms.Moved.{seen_bytes}
 use Rattle.chan_walk.proofs.moved.add_range.Goals as goal

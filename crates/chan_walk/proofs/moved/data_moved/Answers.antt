@@ -1,9 +1,6 @@
-use Rattle.chan_walk.proofs.Names.{ap, Area, arith, IfOk-weaker, length, List, Place}
-use Rattle.chan_walk.proofs.Names.{places_of_looks, rules, subst, sym, take, ◌<◌, ◌∙◌}
-use Rattle.chan_walk.specs.Direction.{is_direction, moves_by}
+use Rattle.chan_walk.proofs.Names.{ap, Area, arith, IfOk-weaker, is_direction, length, List, moves_by, Place, places_of_looks, rules, subst, sym, take, ◌<◌, ◌∙◌}
 use Rattle.chan_walk.proofs.Theory.Found.{moves_so}
-use Rattle.chan_walk.proofs.Algorithms.Guarding.{HoldBytes, hold_more, hold_none, hold_same}
-use Rattle.chan_walk.proofs.Algorithms.Guarding.{low_none}
+use Rattle.chan_walk.proofs.Algorithms.Guarding.{HoldBytes, hold_more, hold_none, hold_same, low_none}
 use Rattle.chan_walk.proofs.Algorithms.Looking.{look_of, places_next, places_taken}
 use Rattle.chan_walk.proofs.Algorithms.Moved.{HasData, adds_data, all_data}
 use Rattle.chan_walk.proofs.moved.data_moved.Goals as goal

@@ -1,5 +1,4 @@
-use Rattle.chan_walk.proofs.Names.{All, AreLooks, EndsBelow, Job, places_of_looks, take, ◌^◌}
-use Rattle.chan_walk.specs.Direction.{moves_by}
+use Rattle.chan_walk.proofs.Names.{All, AreLooks, EndsBelow, Job, moves_by, places_of_looks, take, ◌^◌}
 use Rattle.chan_walk.proofs.Algorithms.Guarding.{HoldBytes}
 use Rattle.chan_walk.proofs.Algorithms.Moved.{HasData}
 use Rattle.chan_walk.proofs.moved.data_moved.Given as goal

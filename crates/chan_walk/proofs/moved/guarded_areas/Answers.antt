@@ -1,6 +1,4 @@
-use Rattle.chan_walk.proofs.Names.{All, ap, Area, EndsBelow, IfOk-weaker, List, rules, subst, sym}
-use Rattle.chan_walk.proofs.Names.{◌++◌, ◌^◌, ◌∙◌, ◌≡◌}
-use Rattle.std.proofs.lemmas.List.Elements.{All-append}
+use Rattle.chan_walk.proofs.Names.{All, All-append, ap, Area, EndsBelow, IfOk-weaker, List, rules, subst, sym, ◌++◌, ◌^◌, ◌∙◌, ◌≡◌}
 use Rattle.chan_areas.proofs.Merging.{merged_both}
 use Rattle.chan_walk.proofs.moved.guarded_areas.Goals as goal
 

@@ -1,6 +1,4 @@
-use Rattle.chan_walk.proofs.Names.{ap, IsOwnFault, None, Place, Reason, refl, subst, sym, [], ◌++◌}
-use Rattle.chan_walk.proofs.Names.{◌∙◌, ◌∷◌}
-use Rattle.chan_walk.specs.Evidence.{reason_of}
+use Rattle.chan_walk.proofs.Names.{[], ap, IsOwnFault, None, Place, Reason, reason_of, refl, subst, sym, ◌++◌, ◌∙◌, ◌∷◌}
 use Rattle.chan_walk.proofs.Algorithms.Listing.{added_fault, offence, unadded_fault}
 use Rattle.chan_walk.proofs.Algorithms.Looking.{none_shown, own_clear, own_faulty}
 use Rattle.chan_walk.proofs.offence.add_fault.Goals as goal

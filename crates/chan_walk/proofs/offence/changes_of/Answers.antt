@@ -1,5 +1,4 @@
-use Rattle.chan_walk.proofs.Names.{arith, ChangesGuarded, HasOffences, IsArgumentByte, IsCcwByte}
-use Rattle.chan_walk.proofs.Names.{length, List, Place, places_of_looks, subst, sym, take, ◌<◌}
+use Rattle.chan_walk.proofs.Names.{arith, ChangesGuarded, HasOffences, IsArgumentByte, IsCcwByte, length, List, Place, places_of_looks, subst, sym, take, ◌<◌}
 use Rattle.chan_walk.proofs.Theory.Lists.{has_at}
 use Rattle.chan_walk.proofs.Algorithms.Listing.{adds_changes, new_place, offences_more, stores_both}
 use Rattle.chan_walk.proofs.Algorithms.Looking.{look_of, place_at, places_next, places_taken}

@@ -1,5 +1,4 @@
-use Rattle.chan_walk.proofs.Names.{AreClear, AreLooks, AreReached, ChangesGuarded, HasOffences, Job}
-use Rattle.chan_walk.proofs.Names.{places_of_looks, take}
+use Rattle.chan_walk.proofs.Names.{AreClear, AreLooks, AreReached, ChangesGuarded, HasOffences, Job, places_of_looks, take}
 use Rattle.chan_walk.specs.Guard.{Guards}
 use Rattle.chan_walk.proofs.offence.changes_of.Given as goal
 

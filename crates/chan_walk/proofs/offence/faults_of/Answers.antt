@@ -1,5 +1,4 @@
-use Rattle.chan_walk.proofs.Names.{arith, HasOffences, HasOwnFault, length, List, Place}
-use Rattle.chan_walk.proofs.Names.{places_of_looks, subst, sym, take, ◌<◌}
+use Rattle.chan_walk.proofs.Names.{arith, HasOffences, HasOwnFault, length, List, Place, places_of_looks, subst, sym, take, ◌<◌}
 use Rattle.chan_walk.proofs.Algorithms.Listing.{new_place, offences_more}
 use Rattle.chan_walk.proofs.Algorithms.Looking.{look_of, places_next, places_taken}
 use Rattle.chan_walk.proofs.offence.faults_of.Goals as goal

@@ -1,6 +1,5 @@
-use Rattle.chan_walk.proofs.Names.{rules}
+use Rattle.chan_walk.proofs.Names.{offence_number, rules}
 use Rattle.std.proofs.lemmas.List.Sorted.{IsNonDecreasingBy-from_sort_by_key}
-use Rattle.chan_walk.specs.Offence.{offence_number}
 use Rattle.chan_walk.proofs.Algorithms.Listing.{increasing}
 use Rattle.chan_walk.proofs.offence.in_order.Goals as goal
 

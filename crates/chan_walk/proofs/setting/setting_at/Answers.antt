@@ -1,5 +1,4 @@
-use Rattle.std.proofs.Common.{rules}
-use Rattle.ccw_core.proofs.StorageLemmas.{ccw_at-where}
+use Rattle.chan_walk.proofs.Names.{ccw_at-where, rules}
 use Rattle.chan_walk.proofs.Theory.Checks.{check_stands}
 use Rattle.chan_walk.proofs.setting.setting_at.Goals as goal
 

@@ -1,7 +1,4 @@
-use Rattle.chan_walk.proofs.Names.{AddsPlace, ap, arith, first_place, inl, inr, IsWalked, Job, List}
-use Rattle.chan_walk.proofs.Names.{Place, places_of_looks, refl, Some, subst, sym, ℕ, [], ◌<◌, ◌∙◌}
-use Rattle.chan_walk.proofs.Names.{◌∷◌, ◌≡◌}
-use Rattle.chan_walk.specs.Walk.{IsTraced}
+use Rattle.chan_walk.proofs.Names.{[], AddsPlace, ap, arith, first_place, inl, inr, IsTraced, IsWalked, Job, List, Place, places_of_looks, refl, Some, subst, sym, ℕ, ◌<◌, ◌∙◌, ◌∷◌, ◌≡◌}
 use Rattle.chan_walk.proofs.Algorithms.Looking.{number_of_places}
 use Rattle.chan_walk.proofs.Algorithms.Walking.{walked_first}
 use Rattle.chan_walk.proofs.walk.walk_all.Goals as goal

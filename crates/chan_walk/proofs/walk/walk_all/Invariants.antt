@@ -1,5 +1,4 @@
-use Rattle.chan_walk.proofs.Names.{MarksAgree, AreLooks, IsWalked, places_of_looks, ◌+◌, ◌-◌}
-use Rattle.chan_walk.specs.Walk.{IsTraced}
+use Rattle.chan_walk.proofs.Names.{AreLooks, IsTraced, IsWalked, MarksAgree, places_of_looks, ◌+◌, ◌-◌}
 use Rattle.chan_walk.proofs.walk.walk_all.Given as goal
 
 abbrev pub invariant-loop-at : goal.invariant-loop-at

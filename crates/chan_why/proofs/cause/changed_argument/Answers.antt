@@ -1,15 +1,6 @@
-use Rattle.std.proofs.Common.{◌≡◌, ◌<◌, length, get_or, List, refl, sym, ap, ◌∙◌, subst}
-use Rattle.ccw_core.specs.declared.areas.Area.{Area}
-use Rattle.chan_walk.specs.declared.place.Place.{Place}
-use Rattle.chan_areas.specs.Merged.{IsLeastOrNone, IsByteIn}
-use Rattle.chan_walk.specs.Guard.{GuardAreas, Guards, IsArgumentByteOf}
-use Rattle.chan_walk.specs.Look.{Seen, places_of_looks}
-use Rattle.chan_walk.specs.Operand.{whole_of}
-use Rattle.chan_why.specs.Path.{IsFirstWhere}
-use Rattle.chan_why.proofs.Changing.{first_within, found_least, one_argument, one_taker, taken_at}
-use Rattle.chan_why.proofs.Changing.{taken_whole}
+use Rattle.chan_why.proofs.Names.{ap, Area, get_or, GuardAreas, Guards, IsArgumentByteOf, IsByteIn, IsFirstWhere, IsLeastOrNone, length, List, look_of, Place, places_of_looks, refl, Seen, subst, sym, whole_of, ◌<◌, ◌∙◌, ◌≡◌}
+use Rattle.chan_why.proofs.Changing.{first_within, found_least, one_argument, one_taker, taken_at, taken_whole}
 use Rattle.chan_why.proofs.Indexing.{taker_found}
-use Rattle.chan_walk.proofs.Algorithms.Looking.{look_of}
 use Rattle.chan_why.proofs.cause.changed_argument.Goals as goal
 
 pub unwrap-byte-requires : goal.unwrap-byte-requires

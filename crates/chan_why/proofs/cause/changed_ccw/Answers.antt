@@ -1,6 +1,4 @@
-use Rattle.std.proofs.Common.{List, ◌-◌, ◌%◌, refl, subst}
-use Rattle.ccw_core.specs.declared.areas.Area.{Area}
-use Rattle.chan_areas.specs.Merged.{IsLeastOrNone, IsByteIn}
+use Rattle.chan_why.proofs.Names.{Area, IsByteIn, IsLeastOrNone, List, refl, subst, ◌%◌, ◌-◌}
 use Rattle.chan_why.proofs.Changing.{least_ccw, one_ccw}
 use Rattle.chan_why.proofs.cause.changed_ccw.Goals as goal
 

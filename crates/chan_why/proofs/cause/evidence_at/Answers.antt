@@ -1,21 +1,8 @@
-use Rattle.std.proofs.Common.{◌≡◌, ℕ, Option, Some, None, IsSome, refl, sym, ap, ◌∙◌, subst}
+use Rattle.chan_why.proofs.Names.{ap, Area, AreClear, ccw_of, ccw_seen, ChangesGuarded, clear_stands, data_at, data_of, Evidence, Fields, GuardAreas, Guards, IsArgumentIn, IsCause, IsCcwIn, IsLook, IsOwnFault, IsSome, Job, None, Offends, Option, own_clear, Place, Reason, refl, Seen, Some, subst, sym, ℕ, ◌∙◌, ◌≡◌}
 use Rattle.std.proofs.lemmas.Option.{same_Some}
-use Rattle.ccw_core.specs.declared.areas.Area.{Area}
-use Rattle.ccw_core.specs.Ccw.{Fields}
-use Rattle.chan_walk.specs.declared.evidence.Evidence.{Evidence}
-use Rattle.chan_walk.specs.declared.job.Job.{Job}
-use Rattle.chan_walk.specs.declared.place.Place.{Place}
-use Rattle.chan_walk.specs.declared.reason.Reason.{Reason}
-use Rattle.chan_walk.specs.Evidence.{IsOwnFault, reason_of}
-use Rattle.chan_walk.specs.Guard.{GuardAreas, Guards}
-use Rattle.chan_walk.specs.Look.{IsLook, Seen}
-use Rattle.chan_walk.specs.Place.{ccw_of, data_at, data_of}
-use Rattle.chan_walk.specs.Verdict.{AreClear, ChangesGuarded, Offends}
-use Rattle.chan_walk.proofs.Algorithms.Looking.{ccw_seen, none_shown, own_clear, own_faulty}
-use Rattle.chan_walk.proofs.Theory.Faults.{clear_stands}
-use Rattle.chan_why.specs.Cause.{IsArgumentIn, IsCause, IsCcwIn}
-use Rattle.chan_why.proofs.Causes.{changes_argument, changes_ccw, offends_by_change, offends_by_own}
-use Rattle.chan_why.proofs.Causes.{over_argument, over_ccw, own_is_cause}
+use Rattle.chan_walk.specs.Evidence.{reason_of}
+use Rattle.chan_walk.proofs.Algorithms.Looking.{none_shown, own_faulty}
+use Rattle.chan_why.proofs.Causes.{changes_argument, changes_ccw, offends_by_change, offends_by_own, over_argument, over_ccw, own_is_cause}
 use Rattle.chan_why.proofs.cause.evidence_at.Goals as goal
 
 -- a place that offends without an own fault: its CCW is seen, and it changes what is guarded

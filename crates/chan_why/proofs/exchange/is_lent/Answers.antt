@@ -1,4 +1,4 @@
-use Rattle.std.proofs.Common.{rules}
+use Rattle.chan_why.proofs.Names.{rules}
 use Rattle.chan_why.proofs.Exchanging.{lent_right}
 use Rattle.chan_why.proofs.exchange.is_lent.Goals as goal
 

@@ -1,6 +1,4 @@
-use Rattle.std.proofs.Common.{◌+◌, ◌≤◌, List, ℕ, length, subst, arith}
-use Rattle.chan_walk.specs.Look.{argument_seen}
-use Rattle.chan_why.specs.Finder.{IsIndex, TakesByte, TakesSoFar}
+use Rattle.chan_why.proofs.Names.{argument_seen, arith, IsIndex, length, List, subst, TakesByte, TakesSoFar, ℕ, ◌+◌, ◌≤◌}
 use Rattle.chan_why.proofs.Indexing.{byte_more, bytes_all, bytes_begin, note_more, same_keys}
 use Rattle.chan_why.proofs.finder.note_bytes.Goals as goal
 

@@ -1,4 +1,4 @@
-use Rattle.chan_why.specs.Finder.{IsIndex, TakesSoFar}
+use Rattle.chan_why.proofs.Names.{IsIndex, TakesSoFar}
 use Rattle.chan_why.proofs.finder.note_bytes.Given as goal
 
 abbrev pub invariant-loop-byte : goal.invariant-loop-byte

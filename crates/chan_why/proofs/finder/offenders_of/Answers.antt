@@ -1,12 +1,6 @@
-use Rattle.std.proofs.Common.{◌≡◌, ◌+◌, length, get_or, refl, sym, ap, ◌∙◌, subst, arith}
-use Rattle.std.specs.Ordering.{nat_cmp}
+use Rattle.chan_why.proofs.Names.{ap, arith, get_or, has_at, IsAtPlace, IsIndex, IsLeastOrNone, IsOfKind, length, nat_cmp, place_number, refl, slice_get-get_or, subst, sym, ◌+◌, ◌∙◌, ◌≡◌}
 use Rattle.std.specs.BTreeMap as tree
-use Rattle.chan_areas.specs.Merged.{IsLeastOrNone}
-use Rattle.chan_walk.specs.Places.{place_number}
-use Rattle.chan_why.specs.Finder.{IsAtPlace, IsIndex, IsOfKind}
 use Rattle.chan_why.proofs.Indexing.{kind_more, note_more, some_place}
-use Rattle.chan_walk.proofs.Theory.Lists.{has_at}
-use Rattle.std.proofs.lemmas.Option.{slice_get-get_or}
 use Rattle.chan_why.proofs.finder.offenders_of.Goals as goal
 
 pub unwrap-at-requires : goal.unwrap-at-requires

@@ -1,4 +1,4 @@
-use Rattle.chan_why.specs.Finder.{IsIndex, IsOfKind}
+use Rattle.chan_why.proofs.Names.{IsIndex, IsOfKind}
 use Rattle.chan_why.proofs.finder.offenders_of.Given as goal
 
 abbrev pub invariant-loop-offence : goal.invariant-loop-offence

@@ -1,7 +1,4 @@
-use Rattle.std.proofs.Common.{◌≡◌, ◌+◌, length, ap, ◌∙◌, subst, arith}
-use Rattle.chan_walk.specs.declared.place.Place.{Place}
-use Rattle.chan_walk.specs.Places.{place_number}
-use Rattle.chan_why.specs.Finder.{IsAtPlace, IsIndex}
+use Rattle.chan_why.proofs.Names.{ap, arith, IsAtPlace, IsIndex, length, Place, place_number, subst, ◌+◌, ◌∙◌, ◌≡◌}
 use Rattle.chan_why.proofs.Indexing.{note_more, place_more}
 use Rattle.chan_why.proofs.finder.places_of.Goals as goal
 

@@ -1,4 +1,4 @@
-use Rattle.chan_why.specs.Finder.{IsAtPlace, IsIndex}
+use Rattle.chan_why.proofs.Names.{IsAtPlace, IsIndex}
 use Rattle.chan_why.proofs.finder.places_of.Given as goal
 
 abbrev pub invariant-loop-at : goal.invariant-loop-at

@@ -1,5 +1,4 @@
-use Rattle.std.proofs.Common.{◌≡◌, length, subst, arith}
-use Rattle.chan_why.specs.Finder.{IsIndex, TakesByte}
+use Rattle.chan_why.proofs.Names.{arith, IsIndex, length, subst, TakesByte, ◌≡◌}
 use Rattle.chan_why.proofs.finder.takers_of.Goals as goal
 
 pub returns : goal.returns

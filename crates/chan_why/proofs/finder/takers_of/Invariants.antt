@@ -1,4 +1,4 @@
-use Rattle.chan_why.specs.Finder.{IsIndex, TakesByte}
+use Rattle.chan_why.proofs.Names.{IsIndex, TakesByte}
 use Rattle.chan_why.proofs.finder.takers_of.Given as goal
 
 abbrev pub invariant-loop-at : goal.invariant-loop-at

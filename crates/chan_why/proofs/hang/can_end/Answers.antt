@@ -1,10 +1,4 @@
-use Rattle.std.proofs.Common.{◌≡◌, ◌+◌, ◌<◌, ◌∙◌, ℕ, length, slice_get, refl, subst}
-use Rattle.std.proofs.Common.{sym, ap, arith, rules}
-use Rattle.std.proofs.lemmas.List.{get_or_read}
-use Rattle.std.proofs.lemmas.Option.{slice_get_read, slice_get_within}
-use Rattle.chan_walk.specs.declared.place.Place.{Place}
-use Rattle.chan_walk.specs.Places.{place_number}
-use Rattle.chan_why.specs.Hang.{FindsMore, HasBefore, MarksFound}
+use Rattle.chan_why.proofs.Names.{ap, arith, FindsMore, get_or_read, HasBefore, length, MarksFound, Place, place_number, refl, rules, slice_get, slice_get_read, slice_get_within, subst, sym, ℕ, ◌+◌, ◌<◌, ◌∙◌, ◌≡◌}
 use Rattle.chan_why.proofs.Retracing.{found_within, retraced, retraces_begin, retraces_on}
 use Rattle.chan_why.proofs.hang.can_end.Goals as goal
 

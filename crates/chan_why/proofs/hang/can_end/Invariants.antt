@@ -1,7 +1,4 @@
-use Rattle.std.proofs.Common.{◌-◌, length}
-use Rattle.chan_walk.specs.declared.job.Job.{Job}
-use Rattle.chan_walk.specs.Look.{AreLooks}
-use Rattle.chan_why.specs.Hang.{MarksFound}
+use Rattle.chan_why.proofs.Names.{AreLooks, Job, length, MarksFound, ◌-◌}
 use Rattle.chan_why.proofs.Retracing.{Retraces}
 use Rattle.chan_why.proofs.hang.can_end.Given as goal
 

@@ -1,7 +1,4 @@
-use Rattle.std.proofs.Common.{◌≡◌, ◌+◌, ◌∙◌, length, subst, sym, ap, Some, arith}
-use Rattle.chan_walk.specs.Look.{places_of_looks}
-use Rattle.chan_walk.proofs.Algorithms.Looking.{place_at}
-use Rattle.chan_why.specs.Hang.{IsFirstPlace, IsLeftUnmarked}
+use Rattle.chan_why.proofs.Names.{ap, arith, IsFirstPlace, IsLeftUnmarked, length, place_at, places_of_looks, Some, subst, sym, ◌+◌, ◌∙◌, ◌≡◌}
 use Rattle.chan_why.proofs.Retracing.{left_marked, left_more}
 use Rattle.chan_why.proofs.hang.first_left.Goals as goal
 use Rattle.chan_why.proofs.hang.first_left.Goals.{then-not-marks-at, else-not-marks-at}

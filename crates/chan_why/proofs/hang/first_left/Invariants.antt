@@ -1,5 +1,4 @@
-use Rattle.chan_walk.specs.Look.{places_of_looks}
-use Rattle.chan_why.specs.Hang.{IsFirstPlace, IsLeftUnmarked}
+use Rattle.chan_why.proofs.Names.{IsFirstPlace, IsLeftUnmarked, places_of_looks}
 use Rattle.chan_why.proofs.hang.first_left.Given as goal
 
 abbrev pub invariant-loop-at : goal.invariant-loop-at

@@ -1,7 +1,4 @@
-use Rattle.std.proofs.Common.{List, Bool, length, subst}
-use Rattle.chan_walk.specs.Look.{places_of_looks}
-use Rattle.chan_walk.proofs.Algorithms.Walking.{reached_looks}
-use Rattle.chan_why.specs.Hang.{IsFirstPlace, IsLeftUnmarked}
+use Rattle.chan_why.proofs.Names.{Bool, IsFirstPlace, IsLeftUnmarked, length, List, places_of_looks, reached_looks, subst}
 use Rattle.chan_why.proofs.Retracing.{first_hang}
 use Rattle.chan_why.proofs.hang.hang_from.Goals as goal
 

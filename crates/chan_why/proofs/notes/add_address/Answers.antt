@@ -1,5 +1,4 @@
-use Rattle.std.proofs.Common.{ap}
-use Rattle.chan_walk.specs.declared.place.Place.{Place}
+use Rattle.chan_why.proofs.Names.{ap, Place}
 use Rattle.chan_why.proofs.Noted.{address_added}
 use Rattle.chan_why.proofs.notes.add_address.Goals as goal
 

@@ -1,11 +1,5 @@
-use Rattle.std.proofs.Common.{◌<◌, List, length, take, sym, subst, arith}
-use Rattle.chan_walk.specs.declared.place.Place.{Place}
-use Rattle.chan_walk.specs.Argument.{Has}
-use Rattle.chan_walk.specs.Look.{places_of_looks}
-use Rattle.chan_why.specs.Notes.{ends_there}
-use Rattle.chan_walk.proofs.Algorithms.Looking.{look_of, places_next, places_taken}
-use Rattle.chan_why.proofs.Noted.{HasAddress, HoldAddresses, addresses_more, adds_address}
-use Rattle.chan_why.proofs.Noted.{all_addresses}
+use Rattle.chan_why.proofs.Names.{arith, ends_there, Has, length, List, look_of, Place, places_next, places_of_looks, places_taken, subst, sym, take, ◌<◌}
+use Rattle.chan_why.proofs.Noted.{HasAddress, HoldAddresses, addresses_more, adds_address, all_addresses}
 use Rattle.chan_why.proofs.notes.ending.Goals as goal
 
 pub loop-look-preserved : goal.loop-look-preserved

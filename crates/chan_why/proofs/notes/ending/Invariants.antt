@@ -1,8 +1,4 @@
-use Rattle.std.proofs.Common.{take}
-use Rattle.chan_walk.specs.declared.job.Job.{Job}
-use Rattle.chan_walk.specs.Argument.{Has}
-use Rattle.chan_walk.specs.Look.{AreLooks, places_of_looks}
-use Rattle.chan_why.specs.Notes.{ends_there}
+use Rattle.chan_why.proofs.Names.{AreLooks, ends_there, Has, Job, places_of_looks, take}
 use Rattle.chan_why.proofs.Noted.{HasAddress, HoldAddresses}
 use Rattle.chan_why.proofs.notes.ending.Given as goal
 

@@ -1,9 +1,5 @@
-use Rattle.std.proofs.Common.{ap, arith, subst, sym, ◌∙◌}
-use Rattle.std.specs.List.{filter}
-use Rattle.std.proofs.lemmas.List.{take_all}
-use Rattle.chan_areas.specs.Merged.{AreExactly}
+use Rattle.chan_why.proofs.Names.{ap, AreExactly, arith, filter, has_machine_byte, subst, sym, take_all, ◌∙◌}
 use Rattle.chan_walk.specs.Guarded.{IsGuarded}
-use Rattle.chan_why.specs.Notes.{has_machine_byte}
 use Rattle.chan_why.proofs.Noted.{machine_right}
 use Rattle.chan_why.proofs.notes.machine_stores.Goals as goal
 

@@ -1,6 +1,4 @@
-use Rattle.std.proofs.Common.{◌≡◌, take}
-use Rattle.std.specs.List.{filter}
-use Rattle.chan_why.specs.Notes.{has_machine_byte}
+use Rattle.chan_why.proofs.Names.{filter, has_machine_byte, take, ◌≡◌}
 use Rattle.chan_why.proofs.notes.machine_stores.Given as goal
 
 abbrev pub invariant-loop-area : goal.invariant-loop-area

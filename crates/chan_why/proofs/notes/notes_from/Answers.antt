@@ -1,8 +1,6 @@
-use Rattle.std.proofs.Common.{sym, subst}
-use Rattle.chan_walk.specs.Guard.{GuardAreas, Guards}
+use Rattle.chan_why.proofs.Names.{GuardAreas, Guards, reached_looks, subst, sym}
 use Rattle.chan_walk.specs.Job.{fetch_of, store_of}
 use Rattle.chan_walk.specs.Moved.{IsFetchedFrom, IsStoredInto}
-use Rattle.chan_walk.proofs.Algorithms.Walking.{reached_looks}
 use Rattle.chan_why.proofs.Noted.{unused_same}
 use Rattle.chan_why.proofs.notes.notes_from.Goals as goal
 

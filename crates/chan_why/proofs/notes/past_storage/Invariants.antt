@@ -1,5 +1,4 @@
-use Rattle.std.proofs.Common.{◌≡◌, take}
-use Rattle.std.specs.List.{filter}
+use Rattle.chan_why.proofs.Names.{filter, take, ◌≡◌}
 use Rattle.chan_why.specs.Notes.{reaches_past_storage}
 use Rattle.chan_why.proofs.notes.past_storage.Given as goal
 

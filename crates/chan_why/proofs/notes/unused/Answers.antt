@@ -1,7 +1,4 @@
-use Rattle.std.proofs.Common.{ap, arith, not, ◌∙◌}
-use Rattle.std.specs.List.{filter}
-use Rattle.std.proofs.lemmas.List.{take_all}
-use Rattle.chan_why.specs.Notes.{has_byte_of}
+use Rattle.chan_why.proofs.Names.{ap, arith, filter, has_byte_of, not, take_all, ◌∙◌}
 use Rattle.chan_why.proofs.Noted.{are_unused}
 use Rattle.chan_why.proofs.notes.unused.Goals as goal
 

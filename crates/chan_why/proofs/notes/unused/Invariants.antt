@@ -1,6 +1,4 @@
-use Rattle.std.proofs.Common.{◌≡◌, not, take}
-use Rattle.std.specs.List.{filter}
-use Rattle.chan_why.specs.Notes.{has_byte_of}
+use Rattle.chan_why.proofs.Names.{filter, has_byte_of, not, take, ◌≡◌}
 use Rattle.chan_why.proofs.notes.unused.Given as goal
 
 abbrev pub invariant-loop-area : goal.invariant-loop-area

@@ -1,7 +1,4 @@
-use Rattle.std.proofs.Common.{Option, Some, None, refl, sym, ap, subst, inl, inr}
-use Rattle.std.proofs.lemmas.Bool.{both_ways}
-use Rattle.chan_walk.specs.declared.place.Place.{Place}
-use Rattle.chan_why.specs.Witness.{StoresAt}
+use Rattle.chan_why.proofs.Names.{ap, both_ways, inl, inr, None, Option, Place, refl, Some, StoresAt, subst, sym}
 use Rattle.chan_why.proofs.StoredOver.{IsLater, last_more}
 use Rattle.chan_why.proofs.path.first_store.Goals as goal
 

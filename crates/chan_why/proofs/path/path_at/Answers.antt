@@ -1,14 +1,5 @@
-use Rattle.std.proofs.Common.{◌≡◌, ◌<◌, ◌++◌, ◌∷◌, [], List, length, slice_get, slice_index}
-use Rattle.std.proofs.Common.{reverse, Some, refl, sym, ap, ◌∙◌, subst, arith}
+use Rattle.chan_why.proofs.Names.{[], ap, arith, HasFound, IsLastStore, IsPathAt, IsStoredBefore, IsSurvey, Job, length, List, look_of, Place, place_at, places_of_looks, refl, reverse, Seen, slice_get, slice_index, Some, subst, sym, ◌++◌, ◌<◌, ◌∙◌, ◌∷◌, ◌≡◌}
 use Rattle.std.proofs.lemmas.List.{reverse-reverse}
-use Rattle.chan_walk.specs.declared.job.Job.{Job}
-use Rattle.chan_walk.specs.declared.place.Place.{Place}
-use Rattle.chan_walk.specs.JobSurvey.{IsSurvey}
-use Rattle.chan_walk.specs.Look.{Seen, places_of_looks}
-use Rattle.chan_walk.specs.Walk.{HasFound}
-use Rattle.chan_walk.proofs.Algorithms.Looking.{look_of, place_at}
-use Rattle.chan_why.specs.Path.{IsPathAt}
-use Rattle.chan_why.specs.Witness.{IsLastStore, IsStoredBefore}
 use Rattle.chan_why.proofs.Backward.{IsWayBack, as_read, back_end, back_next, from_earlier}
 use Rattle.chan_why.proofs.path.path_at.Goals as goal
 

@@ -1,9 +1,4 @@
-use Rattle.std.proofs.Common.{◌≡◌, ◌<◌, ◌∷◌, List, length}
-use Rattle.chan_walk.specs.declared.job.Job.{Job}
-use Rattle.chan_walk.specs.declared.place.Place.{Place}
-use Rattle.chan_why.specs.Witness.{IsLastStore}
-use Rattle.chan_walk.specs.Look.{places_of_looks}
-use Rattle.chan_walk.specs.JobSurvey.{IsSurvey}
+use Rattle.chan_why.proofs.Names.{IsLastStore, IsSurvey, Job, length, List, Place, places_of_looks, ◌<◌, ◌∷◌, ◌≡◌}
 use Rattle.chan_why.proofs.Backward.{IsWayBack}
 use Rattle.chan_why.proofs.path.path_at.Given as goal
 

@@ -1,7 +1,4 @@
-use Rattle.std.proofs.Common.{sym, subst}
-use Rattle.chan_walk.specs.declared.evidence.Evidence.{Evidence}
-use Rattle.chan_why.specs.SecondPath.{IsSecondPathEnd}
-use Rattle.chan_walk.specs.Look.{places_of_looks}
+use Rattle.chan_why.proofs.Names.{Evidence, IsSecondPathEnd, places_of_looks, subst, sym}
 use Rattle.chan_why.proofs.Indexing.{taker_found}
 use Rattle.chan_why.proofs.second_path.changed_place.Goals as goal
 

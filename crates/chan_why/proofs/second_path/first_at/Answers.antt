@@ -1,5 +1,4 @@
-use Rattle.std.proofs.Common.{◌≡◌, ◌∙◌, ap, arith}
-use Rattle.chan_walk.specs.declared.place.Place.{Place}
+use Rattle.chan_why.proofs.Names.{ap, arith, Place, ◌∙◌, ◌≡◌}
 use Rattle.chan_why.proofs.Finding.{none_more}
 use Rattle.chan_why.proofs.second_path.first_at.Goals as goal
 

@@ -1,5 +1,4 @@
-use Rattle.std.proofs.Common.{◌≡◌}
-use Rattle.chan_walk.specs.Look.{places_of_looks}
+use Rattle.chan_why.proofs.Names.{places_of_looks, ◌≡◌}
 use Rattle.chan_why.proofs.Finding.{NoneBefore}
 use Rattle.chan_why.proofs.second_path.first_at.Given as goal
 

@@ -1,9 +1,5 @@
-use Rattle.std.proofs.Common.{List, Some, None, length, sym, subst}
-use Rattle.chan_why.specs.SecondPath.{IsSecondPathEnd}
-use Rattle.chan_why.specs.Finder.{IsIndex, TakesByte}
-use Rattle.chan_walk.specs.Look.{Seen, places_of_looks}
+use Rattle.chan_why.proofs.Names.{IsIndex, IsSecondPathEnd, length, List, None, places_of_looks, reached_looks, Seen, Some, subst, sym, TakesByte}
 use Rattle.chan_why.proofs.Changing.{changed_within, none_found, second_found}
-use Rattle.chan_walk.proofs.Algorithms.Walking.{reached_looks}
 use Rattle.chan_why.proofs.second_path.second_path.Goals as goal
 
 pub path_at-requires-clause-within : goal.path_at-requires-clause-within

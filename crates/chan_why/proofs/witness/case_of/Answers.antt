@@ -1,7 +1,4 @@
-use Rattle.std.proofs.Common.{◌≡◌, ◌<◌, List, get_or, length, subst, sym}
-use Rattle.chan_walk.specs.Look.{Seen, places_of_looks}
-use Rattle.chan_why.specs.Path.{IsFirstWhere}
-use Rattle.chan_why.specs.Witness.{HasLikeOffence}
+use Rattle.chan_why.proofs.Names.{get_or, HasLikeOffence, IsFirstWhere, length, List, places_of_looks, Seen, subst, sym, ◌<◌, ◌≡◌}
 use Rattle.chan_why.proofs.Changing.{first_within}
 use Rattle.chan_why.proofs.Explaining.{case_there, look_there, offending_there, some_found}
 use Rattle.chan_why.proofs.Indexing.{like_found}

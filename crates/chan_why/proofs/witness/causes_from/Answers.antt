@@ -1,11 +1,4 @@
-use Rattle.std.proofs.Common.{◌+◌, List, get_or, subst, arith, rules}
-use Rattle.std.specs.List.{AllZip}
-use Rattle.std.proofs.lemmas.List.{take_all}
-use Rattle.std.proofs.lemmas.Option.{slice_get-get_or}
-use Rattle.chan_walk.specs.declared.offence.Offence.{Offence}
-use Rattle.chan_walk.specs.Argument.{Has}
-use Rattle.chan_walk.proofs.Theory.Lists.{has_at}
-use Rattle.chan_why.specs.Witness.{IsCauseOf}
+use Rattle.chan_why.proofs.Names.{AllZip, arith, get_or, Has, has_at, IsCauseOf, List, Offence, rules, slice_get-get_or, subst, take_all, ◌+◌}
 use Rattle.chan_why.proofs.Explaining.{cause_more}
 use Rattle.chan_why.proofs.witness.causes_from.Goals as goal
 

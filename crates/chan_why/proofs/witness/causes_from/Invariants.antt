@@ -1,8 +1,4 @@
-use Rattle.std.proofs.Common.{take}
-use Rattle.std.specs.List.{AllZip}
-use Rattle.chan_walk.specs.declared.job.Job.{Job}
-use Rattle.chan_walk.specs.JobSurvey.{IsSurvey}
-use Rattle.chan_why.specs.Witness.{IsCauseOf}
+use Rattle.chan_why.proofs.Names.{AllZip, IsCauseOf, IsSurvey, Job, take}
 use Rattle.chan_why.proofs.witness.causes_from.Given as goal
 
 abbrev pub invariant-loop-offence : goal.invariant-loop-offence

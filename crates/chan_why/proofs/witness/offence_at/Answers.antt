@@ -1,8 +1,4 @@
-use Rattle.std.proofs.Common.{List, get_or, subst}
-use Rattle.std.proofs.lemmas.Option.{slice_get-get_or}
-use Rattle.chan_walk.specs.declared.offence.Offence.{Offence}
-use Rattle.chan_walk.specs.Argument.{Has}
-use Rattle.chan_walk.proofs.Theory.Lists.{has_at}
+use Rattle.chan_why.proofs.Names.{get_or, Has, has_at, List, Offence, slice_get-get_or, subst}
 use Rattle.chan_why.proofs.witness.offence_at.Goals as goal
 
 pub returns-then-offence-address-clause-listed : goal.returns-then-offence-address-clause-listed

@@ -1,4 +1,5 @@
-use Rattle.std.proofs.Common.{◌≡◌, drop}
+use Rattle.chan_why.proofs.Names.{◌≡◌}
+use Rattle.std.proofs.Common.{drop}
 use Rattle.chan_why.specs.Witness.{offence_at}
 use Rattle.chan_why.proofs.witness.offence_at.Given as goal
 

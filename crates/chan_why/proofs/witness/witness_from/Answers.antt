@@ -1,6 +1,4 @@
-use Rattle.std.proofs.Common.{List, subst}
-use Rattle.chan_walk.specs.declared.offence.Offence.{Offence}
-use Rattle.chan_walk.specs.Argument.{Has}
+use Rattle.chan_why.proofs.Names.{Has, List, Offence, subst}
 use Rattle.chan_why.proofs.Explaining.{first_listed}
 use Rattle.chan_why.proofs.witness.witness_from.Goals as goal
 

@@ -1,4 +1,4 @@
-use Rattle.std.proofs.Common.{◌∷◌, []}
+use Rattle.chan_why.proofs.Names.{[], ◌∷◌}
 use Rattle.chan_walk.proofs.Machine.Alarm.{each_path_shows}
 use Rattle.chan_why.proofs.Explaining.{stored_told, witness}
 use Rattle.chan_why.proofs.witness.witness_of.Goals as goal

@@ -22,11 +22,5 @@ returns-clause-answer c =
     record {
       job = c.job.result;
       asked = c.job.ensures;
-      answer = record {
-        verdict = is.verdict;
-        exact = (is.safe, λ h. is.exact h.0 h.1);
-        among = is.among;
-        witness = is.shown;
-        few = is.few;
-      };
+      answer = record { verdict = is.verdict; exact = (is.safe, λ h. is.exact h.0 h.1); among = is.among; witness = is.shown; few = is.few };
     }

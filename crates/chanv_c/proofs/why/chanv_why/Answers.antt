@@ -7,8 +7,7 @@ use Rattle.chanv_c.specs.Answers.{HasTooMany, IsJudged}
 use Rattle.chanv_c.specs.Why.{HasLittleRoomFor, IsWrittenTo}
 use Rattle.chanv_c.proofs.Refusals.{refusal_number}
 use Rattle.chanv_c.proofs.why.chanv_why.Goals as goal
-use Rattle.chanv_c.proofs.why.chanv_why.Goals.{then-has_little_room-via-then-has_little_room}
-use Rattle.chanv_c.proofs.why.chanv_why.Goals.{then-has_little_room-via-else-has_little_room+then-has_little_room-2}
+use Rattle.chanv_c.proofs.why.chanv_why.Goals.{then-has_little_room-via-then-has_little_room, then-has_little_room-via-else-has_little_room+then-has_little_room-2}
 
 pub returns-in-Err-clause-number : goal.returns-in-Err-clause-number
 returns-in-Err-clause-number c =

@@ -1,6 +1,5 @@
 -- A place is written where those so far end.
-use Rattle.std.proofs.Common.{◌≡◌, ◌<◌, ◌++◌, ◌+◌, suc, drop, length, map, take, set, ap, ◌∙◌}
-use Rattle.std.proofs.Common.{arith}
+use Rattle.std.proofs.Common.{◌≡◌, ◌<◌, ◌++◌, ◌+◌, suc, drop, length, map, take, set, ap, ◌∙◌, arith}
 use Rattle.std.proofs.lemmas.Option.{slice_get-get_or}
 use Rattle.chanv_c.specs.Answers.{place_for_c}
 use Rattle.chanv_c.proofs.Written.{one_more}

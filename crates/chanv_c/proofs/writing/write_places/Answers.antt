@@ -1,6 +1,5 @@
 -- A place is written where those so far end.
-use Rattle.std.proofs.Common.{◌≡◌, ◌<◌, ◌++◌, ℕ, zero, suc, ◌+◌, None, List, [], ◌∷◌, drop, length}
-use Rattle.std.proofs.Common.{map, take, set, slice_get, ap, sym, ◌∙◌, arith}
+use Rattle.std.proofs.Common.{◌≡◌, ◌<◌, ◌++◌, ℕ, zero, suc, ◌+◌, None, List, [], ◌∷◌, drop, length, map, take, set, slice_get, ap, sym, ◌∙◌, arith}
 use Rattle.chanv_c.specs.Answers.{place_for_c}
 use Rattle.chanv_c.proofs.Written.{one_more}
 use Rattle.chanv_c.proofs.writing.write_places.Goals as goal

@@ -1,10 +1,7 @@
 -- The end is moved on by the extents that begin at the cylinder.
-use Rattle.std.proofs.Common.{◌≡◌, ◌+◌, ℕ, false, nat_lt, ◌∙◌, sym, length-set, arith, below_more}
-use Rattle.std.proofs.Common.{get_or-set_same, get_or-set_other}
+use Rattle.std.proofs.Common.{◌≡◌, ◌+◌, ℕ, false, nat_lt, ◌∙◌, sym, length-set, arith, below_more, get_or-set_same, get_or-set_other}
 use Rattle.std.proofs.lemmas.List.{length-replicate}
-use Rattle.ckd_core.proofs.CylinderLemmas.{nat_lt-zero, nat_lt-ord_max, reached_below}
-use Rattle.ckd_core.proofs.CylinderLemmas.{reached_below-zero, reached_below-next}
-use Rattle.ckd_core.proofs.CylinderLemmas.{reached_below-has_cylinder}
+use Rattle.ckd_core.proofs.CylinderLemmas.{nat_lt-zero, nat_lt-ord_max, reached_below, reached_below-zero, reached_below-next, reached_below-has_cylinder}
 use Rattle.ckd_core.proofs.extents.held_cylinders.Goals as goal
 use Rattle.ckd_core.specs.declared.device.TheConstants.{CYLINDERS}
 

@@ -1,11 +1,9 @@
 use Rattle.std.proofs.Common.{◌≡◌, ◌-◌, ◌+◌, sym, ap, ◌∙◌, arith, take, drop, Some}
 use Rattle.ccw_core.specs.Ccw.{ccw}
-use Rattle.ccw_core.proofs.StorageLemmas.{ccw_at-misaligned, ccw_at-outside, ccw_at-stands}
-use Rattle.ccw_core.proofs.StorageLemmas.{ccw-part}
+use Rattle.ccw_core.proofs.StorageLemmas.{ccw_at-misaligned, ccw_at-outside, ccw_at-stands, ccw-part}
 use Rattle.std.proofs.lemmas.List.{take-take}
 use Rattle.ccw_core.proofs.storage.Storage.ccw_at.Goals as goal
-use Rattle.ccw_core.proofs.storage.Storage.ccw_at.Goals.{then-address-ne0-via-then-address-ne0}
-use Rattle.ccw_core.proofs.storage.Storage.ccw_at.Goals.{then-address-ne0-via-else-address-ne0+then-self-at}
+use Rattle.ccw_core.proofs.storage.Storage.ccw_at.Goals.{then-address-ne0-via-then-address-ne0, then-address-ne0-via-else-address-ne0+then-self-at}
 
 pub returns-then-address-ne0 : goal.returns-then-address-ne0
 returns-then-address-ne0 c =

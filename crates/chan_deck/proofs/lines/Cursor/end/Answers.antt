@@ -1,4 +1,4 @@
-use Rattle.std.proofs.Common.{◌∙◌, sym}
+use Rattle.chan_deck.proofs.Names.{sym, ◌∙◌}
 use Rattle.std.proofs.lemmas.Bool.{MatchBool-at_false, MatchBool-at_true}
 use Rattle.chan_deck.proofs.RefusalLemmas.{ends}
 use Rattle.chan_deck.proofs.lines.Cursor.end.Goals as goal

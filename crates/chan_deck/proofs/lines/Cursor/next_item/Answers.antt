@@ -1,7 +1,5 @@
-use Rattle.std.proofs.Common.{◌≡◌, ◌+◌, ℕ, List, refl, subst}
-use Rattle.chan_deck.specs.Item.{LineReads, said_by}
-use Rattle.chan_deck.specs.Reading.{IsDeckError, refusal}
-use Rattle.chan_deck.specs.declared.cause.Cause.{Cause}
+use Rattle.chan_deck.proofs.Names.{Cause, IsDeckError, LineReads, List, refl, said_by, subst, ℕ, ◌+◌, ◌≡◌}
+use Rattle.chan_deck.specs.Reading.{refusal}
 use Rattle.chan_deck.specs.declared.error.DeckError.TheVariants as errors
 use Rattle.chan_deck.specs.declared.item.Item.{Item}
 use Rattle.chan_deck.specs.declared.item.Item.TheVariants.{Missing}

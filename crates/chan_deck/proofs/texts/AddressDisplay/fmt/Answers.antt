@@ -1,5 +1,4 @@
-use Rattle.std.proofs.Common.{subst, arith}
-use Rattle.std.specs.Fmt.{HasWritten}
+use Rattle.chan_deck.proofs.Names.{arith, HasWritten, subst}
 use Rattle.chan_deck.proofs.AddressLemmas.{short_address, middle_address, long_address}
 use Rattle.chan_deck.proofs.texts.AddressDisplay.fmt.Goals as goal
 

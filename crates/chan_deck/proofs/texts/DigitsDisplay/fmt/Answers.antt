@@ -1,5 +1,4 @@
-use Rattle.std.proofs.Common.{subst}
-use Rattle.std.specs.Fmt.{HasWritten}
+use Rattle.chan_deck.proofs.Names.{HasWritten, subst}
 use Rattle.chan_deck.proofs.AddressLemmas.{two_digits}
 use Rattle.chan_deck.proofs.texts.DigitsDisplay.fmt.Goals as goal
 

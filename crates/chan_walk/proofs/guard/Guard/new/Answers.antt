@@ -1,6 +1,4 @@
-use Rattle.chan_walk.proofs.Names.{ap, append-nil, append_assoc, AreLooks, AreReached, IfOk-weaker}
-use Rattle.chan_walk.proofs.Names.{List, Place, places_of_looks, subst, sym, [], ◌++◌, ◌∙◌, ◌∷◌}
-use Rattle.chan_walk.proofs.Names.{◌≡◌}
+use Rattle.chan_walk.proofs.Names.{[], ap, append-nil, append_assoc, AreLooks, AreReached, IfOk-weaker, List, Place, places_of_looks, subst, sym, ◌++◌, ◌∙◌, ◌∷◌, ◌≡◌}
 use Rattle.chan_walk.proofs.Algorithms.Looking.{looks_push, places_push}
 use Rattle.chan_walk.proofs.guard.Guard.new.Goals as goal
 

@@ -1,7 +1,5 @@
-use Rattle.chan_walk.proofs.Names.{arith, IsArgumentByteOf, IsCcwByteOf, length, List, Place}
-use Rattle.chan_walk.proofs.Names.{places_of_looks, rules, subst, sym, take, ◌<◌, ◌≡◌}
-use Rattle.chan_walk.proofs.Algorithms.Guarding.{HoldBytes, hold_none, low_none, hold_more}
-use Rattle.chan_walk.proofs.Algorithms.Guarding.{hold_same, ccw_bytes, argument_bytes}
+use Rattle.chan_walk.proofs.Names.{arith, IsArgumentByteOf, IsCcwByteOf, length, List, Place, places_of_looks, rules, subst, sym, take, ◌<◌, ◌≡◌}
+use Rattle.chan_walk.proofs.Algorithms.Guarding.{HoldBytes, hold_none, low_none, hold_more, hold_same, ccw_bytes, argument_bytes}
 use Rattle.chan_walk.proofs.Algorithms.Looking.{look_of, places_next, places_taken}
 use Rattle.chan_walk.proofs.guard.Guard.of.Goals as goal
 

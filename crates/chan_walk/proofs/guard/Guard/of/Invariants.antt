@@ -1,5 +1,4 @@
-use Rattle.chan_walk.proofs.Names.{All, AreLooks, EndsBelow, IsArgumentByteOf, IsCcwByteOf, Job}
-use Rattle.chan_walk.proofs.Names.{places_of_looks, take, ◌^◌}
+use Rattle.chan_walk.proofs.Names.{All, AreLooks, EndsBelow, IsArgumentByteOf, IsCcwByteOf, Job, places_of_looks, take, ◌^◌}
 use Rattle.chan_walk.proofs.Algorithms.Guarding.{HoldBytes}
 use Rattle.chan_walk.proofs.guard.Guard.of.Given as goal
 

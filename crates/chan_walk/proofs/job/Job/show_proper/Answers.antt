@@ -1,6 +1,4 @@
-use Rattle.chan_walk.proofs.Names.{subst, true, ◌≡◌}
-use Rattle.ckd_core.specs.Extents.{AreExtents}
-use Rattle.ckd_core.specs.Mask.{is_mask}
+use Rattle.chan_walk.proofs.Names.{AreExtents, is_mask, subst, true, ◌≡◌}
 use Rattle.chan_walk.proofs.job.Job.show_proper.Goals as goal
 
 pub returns : goal.returns

@@ -1,5 +1,4 @@
-use Rattle.chan_walk.proofs.Names.{◌++◌, ◌≡◌}
-use Rattle.chan_walk.specs.Marks.{places_of}
+use Rattle.chan_walk.proofs.Names.{places_of, ◌++◌, ◌≡◌}
 use Rattle.chan_walk.proofs.places.Explored.from_marks.Given as goal
 
 abbrev pub invariant-loop-address : goal.invariant-loop-address

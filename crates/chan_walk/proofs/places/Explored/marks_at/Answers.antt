@@ -1,5 +1,4 @@
-use Rattle.chan_walk.proofs.Names.{bit_at, marks_of, subst, sym, ◌↔◌, ◌≡◌}
-use Rattle.chan_walk.specs.Marks.{HasWay}
+use Rattle.chan_walk.proofs.Names.{bit_at, HasWay, marks_of, subst, sym, ◌↔◌, ◌≡◌}
 use Rattle.chan_walk.proofs.Algorithms.InOrder.{bit_is_way}
 use Rattle.chan_walk.proofs.places.Explored.marks_at.Goals as goal
 

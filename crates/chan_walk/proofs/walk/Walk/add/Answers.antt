@@ -1,8 +1,4 @@
-use Rattle.chan_walk.proofs.Names.{AddsPlace, MarksAgree, arith, bit_at, Bool, both_ways, BTreeMap}
-use Rattle.chan_walk.proofs.Names.{false, Has, inr, length, List, marks_of, Option, Place}
-use Rattle.chan_walk.proofs.Names.{places_of_looks, subst, sym, way_of, ℕ, ◌<◌, ◌↔◌, ◌≡◌, ◌≤◌}
-use Rattle.std.proofs.Common.{IsTrue}
-use Rattle.chan_walk.specs.Walk.{HasNoRoomFor}
+use Rattle.chan_walk.proofs.Names.{AddsPlace, arith, bit_at, Bool, both_ways, BTreeMap, false, Has, HasNoRoomFor, inr, IsTrue, length, List, marks_of, MarksAgree, Option, Place, places_of_looks, subst, sym, way_of, ℕ, ◌<◌, ◌↔◌, ◌≡◌, ◌≤◌}
 use Rattle.chan_walk.proofs.Algorithms.Looking.{looks_push, number_of_places, places_push}
 use Rattle.chan_walk.proofs.Algorithms.Marks.{agrees_push}
 use Rattle.chan_walk.proofs.walk.Walk.add.Goals as goal

@@ -1,8 +1,4 @@
-use Rattle.std.proofs.Common.{List, sym, subst}
-use Rattle.chan_walk.specs.declared.offence.Offence.{Offence}
-use Rattle.chan_walk.specs.Argument.{Has}
-use Rattle.chan_walk.specs.Look.{Seen, places_of_looks}
-use Rattle.chan_walk.specs.Places.{AreDistinct}
+use Rattle.chan_why.proofs.Names.{AreDistinct, Has, List, Offence, places_of_looks, Seen, subst, sym}
 use Rattle.chan_walk.proofs.Algorithms.Walking.{reached_all}
 use Rattle.chan_why.proofs.finder.Finder.new.Goals as goal
 

@@ -1,9 +1,5 @@
-use Rattle.std.proofs.Common.{◌≡◌, ◌-◌, ◌⊎◌, length, arith, refl, subst}
-use Rattle.std.proofs.lemmas.Option.{slice_get_read}
-use Rattle.chan_walk.proofs.Theory.Lists.{has_at}
-use Rattle.chan_why.specs.Hang.{FindsMore}
-use Rattle.chan_why.proofs.Retracing.{IsListed, all_listed, below_end, finds_as, finds_both}
-use Rattle.chan_why.proofs.Retracing.{listed_more, row_before}
+use Rattle.chan_why.proofs.Names.{arith, FindsMore, has_at, length, refl, slice_get_read, subst, ◌-◌, ◌≡◌, ◌⊎◌}
+use Rattle.chan_why.proofs.Retracing.{IsListed, all_listed, below_end, finds_as, finds_both, listed_more, row_before}
 use Rattle.chan_why.proofs.hang.Found.add_before.Goals as goal
 
 pub index-predecessor-requires : goal.index-predecessor-requires

@@ -1,5 +1,4 @@
-use Rattle.std.proofs.Common.{ℕ, length, take}
-use Rattle.chan_why.specs.Hang.{BucketEndsAt, FindsMore, bucket_of}
+use Rattle.chan_why.proofs.Names.{bucket_of, BucketEndsAt, FindsMore, length, take, ℕ}
 use Rattle.chan_why.proofs.Retracing.{IsListed}
 use Rattle.chan_why.proofs.hang.Found.add_before.Given as goal
 

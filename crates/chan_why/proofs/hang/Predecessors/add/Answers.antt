@@ -1,10 +1,5 @@
-use Rattle.std.proofs.Common.{◌≡◌, ◌+◌, ◌<◌, ◌∙◌, ℕ, Option, length, get_or, set, ap, refl, sym}
-use Rattle.std.proofs.Common.{subst, arith}
-use Rattle.std.proofs.lemmas.List.{get_or_read}
+use Rattle.chan_why.proofs.Names.{AddsPredecessor, ap, arith, bucket_of, get_or, get_or_read, length, Option, Predecessor, Predecessors, refl, set, subst, sym, ℕ, ◌+◌, ◌<◌, ◌∙◌, ◌≡◌}
 use Rattle.std.specs.Vec.{with_item}
-use Rattle.chan_why.specs.declared.hang.Predecessor.{Predecessor}
-use Rattle.chan_why.specs.declared.hang.Predecessors.{Predecessors}
-use Rattle.chan_why.specs.Hang.{AddsPredecessor, bucket_of}
 use Rattle.chan_why.proofs.Retracing.{one_added}
 use Rattle.chan_why.proofs.hang.Predecessors.add.Goals as goal
 

@@ -1,6 +1,4 @@
-use Rattle.std.proofs.Common.{◌≡◌, ℕ, Option, refl, rules, subst}
-use Rattle.std.proofs.lemmas.Option.{slice_get_read}
-use Rattle.chan_why.specs.Hang.{AddsPredecessor, one_after}
+use Rattle.chan_why.proofs.Names.{AddsPredecessor, one_after, Option, refl, rules, slice_get_read, subst, ℕ, ◌≡◌}
 use Rattle.chan_why.proofs.Retracing.{before_more}
 use Rattle.chan_why.proofs.hang.Predecessors.of_looks.Goals as goal
 
