@@ -48,7 +48,7 @@ chan_walk: chan_areas ckd_core
 chan_needs chan_why chan_find: chan_walk
 chan_deck: chan_needs chan_why
 chan_run: chan_args chan_find chan_deck
-ckd_core chan_args chan_find: JOBS = 1
+ckd_core chan_args chan_find: private JOBS = 1
 
 # Explains the verdict on a deck, with nothing proved: it compiles the sources as they are.
 try:
@@ -68,7 +68,7 @@ table:
 test: can_test libraries
 	tests/run --all --jobs $(JOBS)
 
-# In a fresh checkout `make` and `make lib` then begin with what this built.
+# In a fresh checkout `make` and `make lib` then find everything built.
 audit: can_test
 	tests/audit.py
 

@@ -1,15 +1,17 @@
 #!/usr/bin/env python3
-"""Proves every crate by `rt ci`, the kit's gate, and tries the mutants of each once it is proved.
+"""Proves every crate by the kit's gate, builds chanv and the library for C, and tries the mutants.
 
-    tests/audit.py             proves, and tries the mutants
-    tests/audit.py --proofs    proves
+    tests/audit.py             all of that
+    tests/audit.py --proofs    only proves
 
-`rt ci` runs in a copy without must-fail/, because for these edits it would prove a crate once more.
-If the checkout has no libraries, it gets each library that `rt ci` built, and the mutants, `make`
-and `make lib` begin with these. `rt` takes a library as built if a sum of its sources is beside it.
-`rt ci` leaves no sum, because its libraries fit only one another; here all come from one run, so
-this writes the sum, as the kit's own module gives it. If the kit gives none, or the checkout has
-libraries of its own, `rt lib` builds what isn't built, and the mutants come after that.
+The kit's gate is `rt ci`, to which tests/kit_gate.py gives all processors. It runs in a copy
+without must-fail/, because for these edits it would prove a crate once more. If the checkout has no
+libraries, it gets each library that `rt ci` built, and all that follows begins with these: `make`,
+`make lib`, and the mutants of a crate once it is proved. `rt` takes a library as built if a sum of
+its sources is beside it. `rt ci` leaves no sum, because its libraries fit only one another; here
+all come from one run, so this writes the sum, as the kit's own module gives it. If the kit gives
+none, or the checkout has libraries of its own, `rt lib` builds what isn't built, and the mutants
+come after that.
 
 The program of the unit tests goes to out/unit_tests; tests/run would have to prove it again.
 
@@ -30,10 +32,21 @@ from pathlib import Path
 
 sys.dont_write_bytecode = True
 
-from mutants import CRATES, ROOT, STANDS_ON, below, counted, tasks, with_mutants  # noqa: E402
+from mutants import (  # noqa: E402
+    CRATES,
+    ROOT,
+    STANDS_ON,
+    begin,
+    below,
+    counted,
+    is_proved,
+    with_mutants,
+)
 
 # how `rt ci` says that it has proved a crate, or has kept it from an earlier run
 PROVED = re.compile(r"rt: (\w+) (?:proved$|is kept: )")
+# the targets of make for what isn't a library of other crates
+TARGETS = {"chanv": "run", "chanv_c": "lib"}
 
 
 def copy_of_all(room):
@@ -64,17 +77,23 @@ def is_given(copy, crate):
         return False
 
 
+def is_made(crate):
+    """Builds what isn't a library of other crates, and says whether the crate is built here."""
+    target = TARGETS.get(crate)
+    return not target or not subprocess.call(["make", target], cwd=ROOT, stdin=subprocess.DEVNULL)
+
+
 class Audit:
     """What was proved and given so far, and what tries the mutants."""
 
     def __init__(self, copy, beside, crates):
         self.copy, self.beside = copy, beside
-        self.left, self.given, self.tried = crates, set(), []
+        self.left, self.given, self.trying = crates, set(), []
         self.gives = not any(CRATES.glob("*/out/rlib"))
 
-    def begin(self, crate, is_built):
+    def begin(self, crate, prove):
         self.left.remove(crate)
-        self.tried += [self.beside.submit(task) for task in tasks(crate, is_built)]
+        begin(self.beside, self.trying, crate, prove)
 
     def proved(self, crate):
         is_next = crate not in self.given and self.given.issuperset(below(crate) - {crate})
@@ -83,12 +102,12 @@ class Audit:
         if self.gives and is_next:
             self.given.add(crate)
             if crate in self.left:
-                self.begin(crate, is_built=True)
+                self.begin(crate, is_made)
 
     def prove(self):
         """The status of `rt ci`, after which all that it proved is given."""
         how = {"stdin": subprocess.DEVNULL, "stdout": subprocess.PIPE, "errors": "replace"}
-        with subprocess.Popen(["rt", "ci"], cwd=self.copy, **how) as proving:
+        with subprocess.Popen([ROOT / "tests/kit_gate.py"], cwd=self.copy, **how) as proving:
             for _ in range(len(os.sched_getaffinity(0)) // 4):
                 self.beside.submit(proving.wait)
             for line in proving.stdout:
@@ -118,8 +137,8 @@ def main():
         (ROOT / "out").mkdir(exist_ok=True)
         shutil.copy(audit.copy / "crates/unit_tests/out/unit_tests_tests", ROOT / "out/unit_tests")
         for crate in [*audit.left]:
-            audit.begin(crate, is_built=False)
-    return counted(it.result() for it in audit.tried) if crates else 0
+            audit.begin(crate, is_made if crate in TARGETS else is_proved)
+        return counted(it.result() for it in audit.trying) if crates else 0
 
 
 if __name__ == "__main__":

@@ -18,14 +18,17 @@ for comments:
     # refused-by: laws::yes_is_safe      for any other: the law or function that has to refuse it
 
 Each crate is first proved as it is, from what out/ has kept, unless --built says that this was just
-done. Then a copy gets mutants of several functions, and only these functions are checked. Each has
-to be refused for a goal of its own: one that the search left open, or one whose written answer no
-longer shows it. If a mutant names goals, it has to be each of these; the copy leaves them
-to the search by name, because `rt check` would else look for what to offer, which takes as long
-again. A call of something that isn't proved, a proof that lost a name, and a text that isn't Rattle
-don't count. A mutant that such a thing hides is tried again without those that were refused with
-it, and in the end alone. What a caller owes rests on the contracts of what it calls, never on their
-bodies, so a function is refused here for its own body alone.
+done. Then a copy gets mutants of several functions, and only these functions are checked, with what
+they call. The first such reading of a crate checks all of it, and what it keeps serves the others.
+It has the callers, because what is kept of a function with a mutant serves no other reading.
+
+Each mutant has to be refused for a goal of its own: one that the search left open, or one whose
+written answer no longer shows it. If it names goals, it has to be each of these; the copy leaves
+them to the search by name, because `rt check` would else look for what to offer, which takes as
+long again. A call of something that isn't proved, a proof that lost a name, and a text that isn't
+Rattle don't count. A mutant that such a thing hides is tried again without those that were refused
+with it, and in the end alone. What a caller owes rests on the contracts of what it calls, never on
+their bodies, so a function is refused here for its own body alone.
 
 The others are wrong definitions, with the code that computes them, and constants, which several
 functions read. For each of these a copy is checked as far as the law or the function that has to
@@ -50,8 +53,11 @@ import sys
 import tempfile
 from pathlib import Path
 
-ROOT = Path(__file__).resolve().parent.parent
-CRATES, MUTANTS = ROOT / "crates", ROOT / "tests/mutants"
+sys.dont_write_bytecode = True
+
+from sources import CRATES, ROOT, items, uses  # noqa: E402
+
+MUTANTS = ROOT / "tests/mutants"
 # how many mutants a reading has: more take less of the processors, and leave some idle at the end
 MOST = 60
 # complaints about a text that can't be read, and more about one that rests on something missing
@@ -106,14 +112,22 @@ def applied(crate, mutant, texts):
     return texts
 
 
+def folder_of(crate, mutant):
+    """The folder of the proof of the mutant's function, with a `+` if the function calls itself."""
+    *above, name = mutant.function.split("::")
+    calls_itself = (CRATES / crate / "proofs").joinpath(*above, f"+{name}").is_dir()
+    return "/".join(["proofs", *above, f"+{name}" if calls_itself else name])
+
+
 def left_to_search(crate, mutant, texts):
     """These texts, with the goals that the mutant names left to the search by name."""
-    file = f"proofs/{mutant.function.replace('::', '/')}/Answers.antt"
-    path, goals = CRATES / crate / file, f"{mutant.function.replace('::', '.')}.Goals"
+    folder = folder_of(crate, mutant)
+    file, goals = f"{folder}/Answers.antt", f"Rattle.{crate}.{folder.replace('/', '.')}.Goals"
+    path = CRATES / crate / file
     text = path.read_text() if path.is_file() else ""
     uses = {
-        rf"Common\.\{{[^}}]*\brules\b": "use Rattle.std.proofs.Common.{rules}",
-        "Goals as goal": f"use Rattle.{crate}.proofs.{goals} as goal",
+        r"(?m)^use .*[{ ]rules[,}]": "use Rattle.std.proofs.Common.{rules}",
+        "Goals as goal": f"use {goals} as goal",
     }
     lines = [line for has, line in uses.items() if not re.search(has, text)]
     answers = [f"pub {it} : goal.{it}\n{it} c = search rules\n" for it in mutant.goals]
@@ -175,7 +189,7 @@ def copy_of(crate):
 
 
 def check_with(crate, texts, functions, what):
-    """The output of `rt check` on these functions, with these texts in place of the crate's."""
+    """The output of `rt check` on these functions, or on all, with these texts in place of its."""
     only = [word for name in functions for word in ("--only", name)]
     with copy_of(crate) as copy:
         for file, text in texts.items():
@@ -189,17 +203,27 @@ def check_with(crate, texts, functions, what):
         return said
 
 
-def own_goals(mutant, line, said):
+def own_goals(crate, mutant, line, said):
     """The goals of its own for which the mutant's function, which has this line, is refused."""
     left = re.search("`search` did not prove ((?:`[^`]*`(?:, )?)*)", line)
-    # the proof of a function that calls itself has a `+` before its name
-    *above, name = map(re.escape, mutant.function.split("::"))
-    folder = "/".join([*above, rf"\+?{name}"])
-    error = rf"(?m)^(?:\./)?proofs/{folder}/\w+\.antt:\d+:\d+: error: `([^`]*)`: (.*)"
+    folder = re.escape(folder_of(crate, mutant))
+    error = rf"(?m)^(?:\./)?{folder}/\w+\.antt:\d+:\d+: error: `([^`]*)`: (.*)"
     refused = [goal for goal, why in re.findall(error, said) if not LOST.search(why)]
     answers = [it if it in mutant.goals else f"{it} (answered)" for it in refused]
     found = [*dict.fromkeys((re.findall("`([^`]*)`", left[1]) if left else []) + answers)]
     return found if set(mutant.goals) <= set(found) else []
+
+
+def callers_first(crate, mutants):
+    """These mutants of functions, those first whose functions come to most others by names."""
+    named = uses([*items(crate)])
+    come_to = {item.path(): {item} for item in named}
+    for found in come_to.values():
+        new = found
+        while new:
+            new = {it for one in new for it in named[one]} - found
+            found |= new
+    return sorted(mutants, key=lambda it: -len(come_to.get(it.function, ())))
 
 
 def readings(crate, mutants):
@@ -223,17 +247,17 @@ def readings(crate, mutants):
     return found
 
 
-def tried(crate, mutants, texts):
+def tried(crate, mutants, texts, checks_all=False):
     """Gives each mutant with the goals for which it is refused, or with none and the reason."""
     if not texts:
         yield mutants[0], [], UNFIT
         return
-    functions = [mutant.function for mutant in mutants]
+    functions = [] if checks_all else [mutant.function for mutant in mutants]
     said, hidden = check_with(crate, texts, functions, f"{len(mutants)} mutants"), []
     for mutant in mutants:
         line = re.search(rf"(?m)^fn {re.escape(f'{crate}::{mutant.function}')}: (.*)", said)
         error = re.search(r"(?m)^.*\berror(\[[\w-]+\])?: .*", said)
-        goals = own_goals(mutant, line[1], said) if line else []
+        goals = own_goals(crate, mutant, line[1], said) if line else []
         if goals or len(mutants) == 1 or line and line[1].startswith("proved"):
             told = [it[0] for it in (line, len(mutants) == 1 and error) if it]
             yield mutant, goals, "; ".join(told)[:240] or "`rt check` doesn't name its function"
@@ -244,9 +268,9 @@ def tried(crate, mutants, texts):
             yield from tried(crate, *reading)
 
 
-def together(crate, mutants, texts):
+def together(crate, reading, checks_all):
     """Tries mutants of one reading: gives each name, whether it is refused, and why."""
-    for mutant, goals, why in tried(crate, mutants, texts):
+    for mutant, goals, why in tried(crate, *reading, checks_all):
         end = f"refused: {mutant.function}: {', '.join(goals)}" if goals else f"FAILED: {why}"
         yield mutant.path.stem, bool(goals), end
 
@@ -284,15 +308,34 @@ def not_proved(crate):
     return 0, 1
 
 
-def tasks(crate, is_built):
+def tasks(crate):
     """What tries the crate's mutants: each gives how many were refused, and how many failed."""
-    if not is_built and not is_proved(crate):
-        return [lambda: not_proved(crate)]
     mutants = [read_mutant(path) for path in paths_of(crate)]
-    bodies = readings(crate, [mutant for mutant in mutants if mutant.is_body])
-    found = [together(crate, *reading) for reading in bodies]
+    bodies = callers_first(crate, [mutant for mutant in mutants if mutant.is_body])
+    checks_all = not (CRATES / crate / "out/incremental").is_dir()
+    found = [
+        together(crate, reading, checks_all and not at)
+        for at, reading in enumerate(readings(crate, bodies))
+    ]
     found += [alone(crate, mutant) for mutant in mutants if not mutant.is_body]
     return [lambda found=it: told(crate, found) for it in found]
+
+
+def begin(beside, trying, crate, prove):
+    """Adds to `trying` what tries the crate's mutants `beside`: the first reading, then the others.
+
+    Before that `prove` says whether the crate is proved as it is.
+    """
+
+    def try_first():
+        if not prove(crate):
+            return not_proved(crate)
+        first, *others = tasks(crate)
+        result = first()
+        trying.extend(beside.submit(task) for task in others)
+        return result
+
+    trying.append(beside.submit(try_first))
 
 
 def with_mutants():
@@ -322,10 +365,11 @@ def main():
     lowest_first = with_mutants()
     given = arguments(lowest_first)
     with concurrent.futures.ThreadPoolExecutor(len(os.sched_getaffinity(0))) as beside:
-        tried = []
+        trying = []
         for crate in given.crates or lowest_first:
-            tried += [beside.submit(task) for task in tasks(crate, given.built)]
-    return counted(it.result() for it in tried)
+            is_well = given.built or is_proved(crate)
+            begin(beside, trying, crate, lambda _, is_well=is_well: is_well)
+        return counted(it.result() for it in trying)
 
 
 if __name__ == "__main__":
