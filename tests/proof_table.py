@@ -11,8 +11,8 @@ calls. The table of laws in docs/MACHINE.md names only functions that exist, amo
 laws.rt. No file of mutants is left out: each belongs to a crate and names what has to refuse it.
 
 A name means one thing: no two files of specs/ define the same name, and no two public types have
-one. No two modules of a crate import each other, directly or through others. And no line is wider
-than a page.
+one. No two modules of a crate import each other, directly or through others. No line is wider than
+a page, but for imports of proofs, and these name each module once.
 """
 
 import re
@@ -30,6 +30,9 @@ from sources import CRATES, items, uses  # noqa: E402
 LAWS = ROOT / "docs/MACHINE.md"
 
 TYPE = re.compile(r"(?m)^pub (?:struct|enum|trait) (\w+)")
+
+# what an import of a proof brings in, up to the names
+IMPORT = re.compile(r"(?m)^((?:unfoldable )?(?:pub )?use \S+)\.\{")
 
 # how many columns a line may have
 WIDEST = {"src": 100, "specs": 100, "proofs": 160}
@@ -189,7 +192,7 @@ def too_wide(folder, most):
     """The lines of a folder with more characters; imports of proofs don't count."""
     for path in sorted(path for path in folder.rglob("*") if path.is_file()):
         for number, line in enumerate(text_of(path).splitlines(), 1):
-            if len(line) > most and not (most > 100 and line.startswith(("use ", "pub use "))):
+            if len(line) > most and not (most > 100 and IMPORT.match(line)):
                 yield f"{short(path)}:{number}"
 
 
@@ -200,10 +203,19 @@ def check_widths(checks):
             checks.expect(f"lines of {crate}/{name} of over {most} columns", [], wide)
 
 
+def check_imports(checks):
+    for crate in crates():
+        proofs = [*(CRATES / crate / "proofs").rglob("*.antt")]
+        twice = {short(path): several(IMPORT.findall(text_of(path))) for path in proofs}
+        found = {path: modules for path, modules in twice.items() if modules}
+        checks.expect(f"modules that a proof of {crate} imports by two lines", {}, found)
+
+
 def check(checks, _built):
     some = with_any()
     check_names(checks)
     check_widths(checks)
+    check_imports(checks)
     tried = [mutant.path for crate in some for mutant in crate.mutants]
     left_out = {*MUTANTS.rglob("*.*"), *CRATES.glob("*/must-fail/*")} - {*tried}
     checks.expect("files of mutants that no crate tries", set(), left_out)
