@@ -1,12 +1,12 @@
 #!/usr/bin/env python3
 """Runs `rt ci`, the kit's gate, with a job for each processor in every proof.
 
-`rt ci` shares the processors out when a proof starts, also to proofs that can't start yet and to
-tests that a crate doesn't have. So the crate for which most others wait gets one job, and other
-processors are idle. Here each proof gets a job for each of them. All else is the kit's own: what is
-proved, how, and what is said of it.
+When a proof starts, `rt ci` shares the idle processors out among all proofs that wait, even for
+tests that a crate doesn't have. So the crate for which most others wait gets one job, and the other
+processors stay idle. Here each proof gets a job for each processor. All else is the kit's own: what
+it proves, how, and what it prints.
 
-If the kit has no such function, or another one, this is `rt ci` as it is.
+If the kit shares them out in another way, this is `rt ci` as it is.
 """
 
 import importlib.machinery
@@ -30,13 +30,21 @@ def with_all_jobs(kit):
     """Has each proof of `rt ci` take as many jobs as there are processors."""
     in_lanes, jobs = kit.in_lanes, kit.processors()
 
-    def in_lanes_with_all_jobs(tasks):
-        def task(waits, lines, needs, call):
-            return waits, lines, needs, lambda given, _: call(given, jobs)
+    def task(waits, lines, needs, call):
+        return waits, lines, needs, lambda given, _: call(given, jobs)
 
-        return in_lanes({name: task(*it) for name, it in tasks.items()})
+    def in_lanes_with_all_jobs(tasks):
+        try:
+            tasks = {name: task(*it) for name, it in tasks.items()}
+        except TypeError as error:
+            say_why(error)
+        return in_lanes(tasks)
 
     kit.in_lanes = in_lanes_with_all_jobs
+
+
+def say_why(error):
+    print(f"rt ci shares out the processors itself: {error!r}", flush=True)
 
 
 def main():
@@ -45,7 +53,7 @@ def main():
         kit = kit_at(os.path.realpath(program))
         with_all_jobs(kit)
     except (Exception, SystemExit) as error:
-        print(f"rt ci shares out the processors itself: {error!r}", flush=True)
+        say_why(error)
         os.execv(program, ["rt", "ci"])
     return kit.main(["ci"])
 
