@@ -59,7 +59,7 @@ from sources import CRATES, ROOT, items, uses  # noqa: E402
 
 MUTANTS = ROOT / "tests/mutants"
 # how many mutants a reading has: more take less of the processors, and leave some idle at the end
-MOST = 60
+MOST = 30
 # complaints about a text that can't be read, and more about one that rests on something missing
 UNREAD = re.compile(
     "is not in scope|has no field|is no name|operand is missing|expected the end|cannot continue"
