@@ -7,11 +7,9 @@
 The kit's gate is `rt ci`, to which tests/kit_gate.py gives all processors. It runs in a copy
 without must-fail/, because for these edits it would prove a crate once more. If the checkout has no
 libraries, it gets each library that `rt ci` built, and all that follows begins with these: `make`,
-`make lib`, and the mutants of a crate once it is proved. `rt` takes a library as built if a sum of
-its sources is beside it. `rt ci` leaves no sum, because its libraries fit only one another; here
-all come from one run, so this writes the sum, as the kit's own module gives it. If the kit gives
-none, or the checkout has libraries of its own, `rt lib` builds what isn't built, and the mutants
-come after that.
+`make lib`, and the mutants of a crate once it is proved. A library holds what the kit made of the
+proofs, in the files that a check keeps in out/incremental, so they go there too. Should a kit keep
+other files, the mutants' checks prove the crate once more.
 
 The program of the unit tests goes to out/unit_tests; tests/run would have to prove it again.
 
@@ -21,7 +19,6 @@ failed`, the mutants' is `N refused, M failed`, and the status is 1 if an M isn'
 
 import argparse
 import concurrent.futures
-import importlib
 import os
 import re
 import shutil
@@ -37,7 +34,6 @@ from mutants import (  # noqa: E402
     ROOT,
     STANDS_ON,
     begin,
-    below,
     counted,
     is_proved,
     with_mutants,
@@ -58,29 +54,32 @@ def copy_of_all(room):
     return shutil.copytree(ROOT, Path(room) / "copy", symlinks=True, ignore=left_out)
 
 
-def is_given(copy, crate):
-    """Gives the checkout the crate's library, if it has one, and says if `rt` takes it as built."""
-    folder, target = copy / "crates" / crate, CRATES / crate
-    if not (folder / "out/rlib").is_dir():
-        return True
-    # a kit may have no such module, or another one
+def give(copy, crate):
+    """Gives the checkout the library that `rt ci` built of the crate, if any, and keeps its proofs."""
+    library, out = copy / "crates" / crate / "out/rlib", CRATES / crate / "out"
+    if not library.is_dir():
+        return
+    shutil.copytree(library, out / "rlib")
     try:
-        kit = importlib.import_module("rtlib")
-        stamp = kit.Crate(str(folder), str(copy), {}).stamp()
-        shutil.copytree(folder / "out/rlib", target / "out/rlib")
-        (target / "out/rlib/stamp").write_text(stamp)
-        if not kit.Crate(str(target), str(ROOT), {}).is_built():
-            raise ValueError("rt takes another sum of its sources")
-        return True
-    except (Exception, SystemExit) as error:
-        print(f"rt lib has to prove {crate} once more: {error!r}", flush=True)
-        return False
+        keep_proofs(library / f"{crate}.rlib/toolchain/checked.a", out / "incremental")
+    except Exception as error:
+        shutil.rmtree(out / "incremental", ignore_errors=True)
+        print(f"a check has to prove {crate} once more: {error!r}", flush=True)
+
+
+def keep_proofs(archive, kept):
+    """Unpacks a library's proofs into a folder that is named as a check names it."""
+    unpacked = kept / "unpacked"
+    unpacked.mkdir(parents=True)
+    subprocess.check_call(["ar", "x", archive], cwd=unpacked)
+    start = min(unpacked.iterdir()).read_bytes()[:1000].decode(errors="replace")
+    kernel = re.search(r"(?m)^--@ kernel (\S+)$", start)[1]
+    unpacked.rename(kept / kernel.replace("/", "_"))
 
 
 def is_made(crate):
-    """Builds what isn't a library of other crates, and says whether the crate is built here."""
-    target = TARGETS.get(crate)
-    return not target or not subprocess.call(["make", target], cwd=ROOT, stdin=subprocess.DEVNULL)
+    """Builds what isn't a library of other crates, and says whether it could."""
+    return not subprocess.call(["make", TARGETS[crate]], cwd=ROOT, stdin=subprocess.DEVNULL)
 
 
 class Audit:
@@ -91,18 +90,16 @@ class Audit:
         self.left, self.given, self.trying = crates, set(), []
         self.gives = not any(CRATES.glob("*/out/rlib"))
 
-    def begin(self, crate, prove):
+    def begin(self, crate):
         self.left.remove(crate)
-        begin(self.beside, self.trying, crate, prove)
+        begin(self.beside, self.trying, crate, is_made if crate in TARGETS else is_proved)
 
     def proved(self, crate):
-        is_next = crate not in self.given and self.given.issuperset(below(crate) - {crate})
-        if self.gives and is_next:
-            self.gives = is_given(self.copy, crate)
-        if self.gives and is_next:
+        if self.gives and crate not in self.given:
             self.given.add(crate)
+            give(self.copy, crate)
             if crate in self.left:
-                self.begin(crate, is_made)
+                self.begin(crate)
 
     def prove(self):
         """The status of `rt ci`, after which all that it proved is given."""
@@ -124,7 +121,6 @@ def main():
     said = argparse.ArgumentParser(prog="tests/audit.py", description=__doc__.splitlines()[0])
     said.add_argument("--proofs", action="store_true", help="prove, and try no mutants")
     crates = [] if said.parse_args().proofs else with_mutants()
-    sys.path.append(os.path.dirname(os.path.realpath(shutil.which("rt"))))
     processors = len(os.sched_getaffinity(0))
     with (
         tempfile.TemporaryDirectory(prefix="audit-") as room,
@@ -137,7 +133,7 @@ def main():
         (ROOT / "out").mkdir(exist_ok=True)
         shutil.copy(audit.copy / "crates/unit_tests/out/unit_tests_tests", ROOT / "out/unit_tests")
         for crate in [*audit.left]:
-            audit.begin(crate, is_made if crate in TARGETS else is_proved)
+            audit.begin(crate)
         return counted(it.result() for it in audit.trying) if crates else 0
 
 

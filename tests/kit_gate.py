@@ -1,12 +1,15 @@
 #!/usr/bin/env python3
-"""Runs `rt ci`, the kit's gate, with a job for each processor in every proof.
+"""Runs `rt ci`, the kit's gate, with all processors, and has its libraries hold their proofs.
 
 When a proof starts, `rt ci` shares the idle processors out among all proofs that wait, even for
 tests that a crate doesn't have. So the crate for which most others wait gets one job, and the other
-processors stay idle. Here each proof gets a job for each processor. All else is the kit's own: what
-it proves, how, and what it prints.
+processors stay idle. Here each proof gets a job for each processor.
 
-If the kit shares them out in another way, this is `rt ci` as it is.
+`rt ci` builds libraries that hold what they state, without the proofs. Here they are those that
+`rt lib` builds, so that what comes after the gate can begin with them (tests/audit.py).
+
+All else is the kit's own: what it proves, how, and what it prints. If the kit runs its proofs in
+another way, this is `rt ci` as it is.
 """
 
 import importlib.machinery
@@ -26,32 +29,33 @@ def kit_at(path):
     return kit
 
 
-def with_all_jobs(kit):
-    """Has each proof of `rt ci` take as many jobs as there are processors."""
+def adapt(kit):
+    """Gives each proof of `rt ci` as many jobs as there are processors, and libraries their proofs."""
     in_lanes, jobs = kit.in_lanes, kit.processors()
 
     def task(waits, lines, needs, call):
         return waits, lines, needs, lambda given, _: call(given, jobs)
 
-    def in_lanes_with_all_jobs(tasks):
+    def adapted(tasks):
+        kit.Crate.cuts_libraries = False
         try:
             tasks = {name: task(*it) for name, it in tasks.items()}
         except TypeError as error:
             say_why(error)
         return in_lanes(tasks)
 
-    kit.in_lanes = in_lanes_with_all_jobs
+    kit.in_lanes = adapted
 
 
 def say_why(error):
-    print(f"rt ci shares out the processors itself: {error!r}", flush=True)
+    print(f"this is rt ci as it is: {error!r}", flush=True)
 
 
 def main():
     program = shutil.which("rt") or sys.exit("tests/kit_gate.py: no program rt")
     try:
         kit = kit_at(os.path.realpath(program))
-        with_all_jobs(kit)
+        adapt(kit)
     except (Exception, SystemExit) as error:
         say_why(error)
         os.execv(program, ["rt", "ci"])

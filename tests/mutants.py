@@ -19,8 +19,8 @@ for comments:
 
 Each crate is first proved as it is, from what out/ has kept, unless --built says that this was just
 done. Then a copy gets mutants of several functions, and only these functions are checked, with what
-they call. The first such reading of a crate checks all of it, and what it keeps serves the others.
-It has the callers, because what is kept of a function with a mutant serves no other reading.
+they call. What out/ has kept serves every reading, except for these functions and those that call
+them, so those that most others call are read together.
 
 Each mutant has to be refused for a goal of its own: one that the search left open, or one whose
 written answer no longer shows it. If it names goals, it has to be each of these; the copy leaves
@@ -148,10 +148,8 @@ def called(words, folder, what):
 
 
 def is_proved(crate):
-    """Whether the crate is proved as it is, which takes no time if `make` has built it."""
-    folder = CRATES / crate
-    command = "lib" if (folder / "src/lib.rt").is_file() else "check"
-    return called([command], folder, "as it is")[1] == 0
+    """Whether the crate is proved as it is, which takes seconds if out/ has kept its proofs."""
+    return called(["check", "--jobs=1"], CRATES / crate, "as it is")[1] == 0
 
 
 def below(crate):
@@ -189,18 +187,13 @@ def copy_of(crate):
 
 
 def check_with(crate, texts, functions, what):
-    """The output of `rt check` on these functions, or on all, with these texts in place of its."""
+    """The output of `rt check` on these functions, with these texts in place of the crate's."""
     only = [word for name in functions for word in ("--only", name)]
     with copy_of(crate) as copy:
         for file, text in texts.items():
             (copy / file).parent.mkdir(parents=True, exist_ok=True)
             (copy / file).write_text(text)
-        said = called(["check", "--jobs=1", *only], copy, what)[0]
-        # what this check kept serves the next ones, if the crate has nothing kept on this disk
-        with contextlib.suppress(OSError):
-            (CRATES / crate / "out").mkdir(exist_ok=True)
-            os.rename(copy / "out/incremental", CRATES / crate / "out/incremental")
-        return said
+        return called(["check", "--jobs=1", *only], copy, what)[0]
 
 
 def own_goals(crate, mutant, line, said):
@@ -247,12 +240,12 @@ def readings(crate, mutants):
     return found
 
 
-def tried(crate, mutants, texts, checks_all=False):
+def tried(crate, mutants, texts):
     """Gives each mutant with the goals for which it is refused, or with none and the reason."""
     if not texts:
         yield mutants[0], [], UNFIT
         return
-    functions = [] if checks_all else [mutant.function for mutant in mutants]
+    functions = [mutant.function for mutant in mutants]
     said, hidden = check_with(crate, texts, functions, f"{len(mutants)} mutants"), []
     for mutant in mutants:
         line = re.search(rf"(?m)^fn {re.escape(f'{crate}::{mutant.function}')}: (.*)", said)
@@ -268,9 +261,9 @@ def tried(crate, mutants, texts, checks_all=False):
             yield from tried(crate, *reading)
 
 
-def together(crate, reading, checks_all):
+def together(crate, reading):
     """Tries mutants of one reading: gives each name, whether it is refused, and why."""
-    for mutant, goals, why in tried(crate, *reading, checks_all):
+    for mutant, goals, why in tried(crate, *reading):
         end = f"refused: {mutant.function}: {', '.join(goals)}" if goals else f"FAILED: {why}"
         yield mutant.path.stem, bool(goals), end
 
@@ -312,30 +305,21 @@ def tasks(crate):
     """What tries the crate's mutants: each gives how many were refused, and how many failed."""
     mutants = [read_mutant(path) for path in paths_of(crate)]
     bodies = callers_first(crate, [mutant for mutant in mutants if mutant.is_body])
-    checks_all = not (CRATES / crate / "out/incremental").is_dir()
-    found = [
-        together(crate, reading, checks_all and not at)
-        for at, reading in enumerate(readings(crate, bodies))
-    ]
+    found = [together(crate, reading) for reading in readings(crate, bodies)]
     found += [alone(crate, mutant) for mutant in mutants if not mutant.is_body]
     return [lambda found=it: told(crate, found) for it in found]
 
 
 def begin(beside, trying, crate, prove):
-    """Adds to `trying` what tries the crate's mutants `beside`: the first reading, then the others.
+    """Adds to `trying` what tries the crate's mutants `beside`, once `prove` says that it is proved."""
 
-    Before that `prove` says whether the crate is proved as it is.
-    """
-
-    def try_first():
+    def try_all():
         if not prove(crate):
             return not_proved(crate)
-        first, *others = tasks(crate)
-        result = first()
-        trying.extend(beside.submit(task) for task in others)
-        return result
+        trying.extend(beside.submit(task) for task in tasks(crate))
+        return 0, 0
 
-    trying.append(beside.submit(try_first))
+    trying.append(beside.submit(try_all))
 
 
 def with_mutants():
