@@ -19,6 +19,7 @@ failed`, the mutants' is `N refused, M failed`, and the status is 1 if an M isn'
 
 import argparse
 import concurrent.futures
+import json
 import os
 import re
 import shutil
@@ -55,26 +56,31 @@ def copy_of_all(room):
 
 
 def give(copy, crate):
-    """Gives the checkout the library that `rt ci` built of the crate, if any, and keeps its proofs."""
+    """Gives the checkout the library that `rt ci` built of the crate, if any, and its proofs."""
     library, out = copy / "crates" / crate / "out/rlib", CRATES / crate / "out"
     if not library.is_dir():
         return
     shutil.copytree(library, out / "rlib")
     try:
-        keep_proofs(library / f"{crate}.rlib/toolchain/checked.a", out / "incremental")
+        keep_proofs(library / f"{crate}.rlib/toolchain", out / "incremental")
     except Exception as error:
         shutil.rmtree(out / "incremental", ignore_errors=True)
         print(f"a check has to prove {crate} once more: {error!r}", flush=True)
 
 
-def keep_proofs(archive, kept):
-    """Unpacks a library's proofs into a folder that is named as a check names it."""
-    unpacked = kept / "unpacked"
-    unpacked.mkdir(parents=True)
-    subprocess.check_call(["ar", "x", archive], cwd=unpacked)
-    start = min(unpacked.iterdir()).read_bytes()[:1000].decode(errors="replace")
-    kernel = re.search(r"(?m)^--@ kernel (\S+)$", start)[1]
-    unpacked.rename(kept / kernel.replace("/", "_"))
+def keep_proofs(library, kept):
+    """Takes the crate's modules out of its library, into a folder that is named as a check does."""
+    (kept / "modules").mkdir(parents=True)
+    with open(library / "checked.a", "rb") as archive:
+        for line in (library / "checked.json").read_text().splitlines():
+            name, start, size = json.loads(line)
+            # others are of the libraries below
+            if "/" not in name:
+                archive.seek(start)
+                module = archive.read(size)
+                (kept / f"modules/{name}.oantt").write_bytes(module)
+    kernel = re.search(rb"(?m)^--@ kernel (\S+)$", module)[1].decode()
+    (kept / "modules").rename(kept / kernel.replace("/", "_"))
 
 
 def is_made(crate):

@@ -30,7 +30,7 @@ def kit_at(path):
 
 
 def adapt(kit):
-    """Gives each proof of `rt ci` as many jobs as there are processors, and libraries their proofs."""
+    """Gives each proof of `rt ci` a job for each processor, and each library its proofs."""
     in_lanes, jobs = kit.in_lanes, kit.processors()
 
     def task(waits, lines, needs, call):

@@ -311,7 +311,7 @@ def tasks(crate):
 
 
 def begin(beside, trying, crate, prove):
-    """Adds to `trying` what tries the crate's mutants `beside`, once `prove` says that it is proved."""
+    """Adds to `trying` what tries the crate's mutants, once `prove` says that it is proved."""
 
     def try_all():
         if not prove(crate):
