@@ -6,10 +6,10 @@
 
 The kit's gate is `rt ci`, to which tests/kit_gate.py gives all processors. It runs in a copy
 without must-fail/, because for these edits it would prove a crate once more. If the checkout has no
-libraries, it gets each library that `rt ci` built, and all that follows begins with these: `make`,
-`make lib`, and the mutants of a crate once it is proved. A library holds what the kit made of the
-proofs, in the files that a check keeps in out/incremental, so they go there too. Should a kit keep
-other files, the mutants' checks prove the crate once more.
+libraries, it gets each library and program that `rt ci` built, and all that follows begins with
+these: `make`, `make lib`, and the mutants of a crate once it is proved. A library holds what the
+kit made of the proofs, in the files that a check keeps in out/incremental, so they go there too.
+Should a kit keep other files, a check of the crate proves it once more.
 
 The program of the unit tests goes to out/unit_tests; tests/run would have to prove it again.
 
@@ -34,8 +34,7 @@ from mutants import (  # noqa: E402
     CRATES,
     ROOT,
     STANDS_ON,
-    begin,
-    counted,
+    Trying,
     is_proved,
     with_mutants,
 )
@@ -56,16 +55,22 @@ def copy_of_all(room):
 
 
 def give(copy, crate):
-    """Gives the checkout the library that `rt ci` built of the crate, if any, and its proofs."""
-    library, out = copy / "crates" / crate / "out/rlib", CRATES / crate / "out"
-    if not library.is_dir():
-        return
-    shutil.copytree(library, out / "rlib")
+    """Gives the checkout what `rt ci` built of the crate, and says whether that has its proofs."""
+    built, out = copy / "crates" / crate / "out", CRATES / crate / "out"
+    for file in (built / crate, built / f"{crate}.stamp"):
+        if file.is_file():
+            out.mkdir(exist_ok=True)
+            shutil.copy(file, out)
+    if not (built / "rlib").is_dir():
+        return False
+    shutil.copytree(built / "rlib", out / "rlib")
     try:
-        keep_proofs(library / f"{crate}.rlib/toolchain", out / "incremental")
+        keep_proofs(built / f"rlib/{crate}.rlib/toolchain", out / "incremental")
+        return True
     except Exception as error:
         shutil.rmtree(out / "incremental", ignore_errors=True)
         print(f"a check has to prove {crate} once more: {error!r}", flush=True)
+        return False
 
 
 def keep_proofs(library, kept):
@@ -91,28 +96,31 @@ def is_made(crate):
 class Audit:
     """What was proved and given so far, and what tries the mutants."""
 
-    def __init__(self, copy, beside, crates):
-        self.copy, self.beside = copy, beside
-        self.left, self.given, self.trying = crates, set(), []
+    def __init__(self, copy, pool, crates):
+        self.copy, self.pool, self.trying = copy, pool, Trying(pool)
+        self.left, self.given = crates, set()
         self.gives = not any(CRATES.glob("*/out/rlib"))
 
-    def begin(self, crate):
+    def begin(self, crate, has_proofs=False):
+        def prove(crate):
+            return has_proofs or is_proved(crate)
+
         self.left.remove(crate)
-        begin(self.beside, self.trying, crate, is_made if crate in TARGETS else is_proved)
+        self.trying.begin(crate, is_made if crate in TARGETS else prove)
 
     def proved(self, crate):
         if self.gives and crate not in self.given:
             self.given.add(crate)
-            give(self.copy, crate)
+            has_proofs = give(self.copy, crate)
             if crate in self.left:
-                self.begin(crate)
+                self.begin(crate, has_proofs)
 
     def prove(self):
         """The status of `rt ci`, after which all that it proved is given."""
         how = {"stdin": subprocess.DEVNULL, "stdout": subprocess.PIPE, "errors": "replace"}
         with subprocess.Popen([ROOT / "tests/kit_gate.py"], cwd=self.copy, **how) as proving:
             for _ in range(len(os.sched_getaffinity(0)) // 4):
-                self.beside.submit(proving.wait)
+                self.pool.submit(proving.wait)
             for line in proving.stdout:
                 print(line, end="", flush=True)
                 found = PROVED.match(line)
@@ -130,17 +138,17 @@ def main():
     processors = len(os.sched_getaffinity(0))
     with (
         tempfile.TemporaryDirectory(prefix="audit-") as room,
-        concurrent.futures.ThreadPoolExecutor(processors) as beside,
+        concurrent.futures.ThreadPoolExecutor(processors) as pool,
     ):
-        audit = Audit(copy_of_all(room), beside, [*crates])
+        audit = Audit(copy_of_all(room), pool, [*crates])
         if audit.prove():
-            beside.shutdown(cancel_futures=True)
+            pool.shutdown(cancel_futures=True)
             return 1
         (ROOT / "out").mkdir(exist_ok=True)
         shutil.copy(audit.copy / "crates/unit_tests/out/unit_tests_tests", ROOT / "out/unit_tests")
         for crate in [*audit.left]:
             audit.begin(crate)
-        return counted(it.result() for it in audit.trying) if crates else 0
+        return audit.trying.end() if crates else 0
 
 
 if __name__ == "__main__":

@@ -1,17 +1,19 @@
 #!/usr/bin/env python3
-"""Runs `rt ci`, the kit's gate, with all processors, and has its libraries hold their proofs.
+"""Runs `rt ci`, the kit's gate, with all processors, and leaves what comes after it can begin with.
 
 When a proof starts, `rt ci` shares the idle processors out among all proofs that wait, even for
 tests that a crate doesn't have. So the crate for which most others wait gets one job, and the other
 processors stay idle. Here each proof gets a job for each processor.
 
-`rt ci` builds libraries that hold what they state, without the proofs. Here they are those that
-`rt lib` builds, so that what comes after the gate can begin with them (tests/audit.py).
+`rt ci` builds libraries that hold what they state, without the proofs, and leaves no sum of the
+sources beside a program. Here libraries are those that `rt lib` builds, and a program has the sum
+by which `rt run` sees that nothing has changed.
 
 All else is the kit's own: what it proves, how, and what it prints. If the kit runs its proofs in
 another way, this is `rt ci` as it is.
 """
 
+import copy
 import importlib.machinery
 import importlib.util
 import os
@@ -29,22 +31,41 @@ def kit_at(path):
     return kit
 
 
-def adapt(kit):
-    """Gives each proof of `rt ci` a job for each processor, and each library its proofs."""
+def give_all_jobs(kit):
+    """Has each proof of `rt ci` take as many jobs as there are processors."""
     in_lanes, jobs = kit.in_lanes, kit.processors()
 
     def task(waits, lines, needs, call):
         return waits, lines, needs, lambda given, _: call(given, jobs)
 
-    def adapted(tasks):
-        kit.Crate.cuts_libraries = False
+    def in_lanes_with_all_jobs(tasks):
         try:
             tasks = {name: task(*it) for name, it in tasks.items()}
         except TypeError as error:
             say_why(error)
+        # until here the kit says that libraries shall have no proofs
+        kit.Crate.cuts_libraries = False
         return in_lanes(tasks)
 
-    kit.in_lanes = adapted
+    kit.in_lanes = in_lanes_with_all_jobs
+
+
+def leave_sums(kit):
+    """Has `rt ci` write the sum of its sources beside each program that it proved and built."""
+    prove, read_files, sum_of = kit.Crate.ci, kit.read_files, kit.rtlib.sum_of
+
+    def prove_and_leave_sum(crate, flags, tests):
+        as_run = copy.copy(crate)
+        read_files(as_run)
+        sources = as_run.stamp()
+        status = prove(crate, flags, tests)
+        if status == 0 and crate.is_program and not tests:
+            program = f"{crate.folder}/out/{crate.name}"
+            with open(f"{program}.stamp", "w", encoding="utf-8") as stamp:
+                stamp.write(sources + sum_of(program))
+        return status
+
+    kit.Crate.ci = prove_and_leave_sum
 
 
 def say_why(error):
@@ -55,7 +76,8 @@ def main():
     program = shutil.which("rt") or sys.exit("tests/kit_gate.py: no program rt")
     try:
         kit = kit_at(os.path.realpath(program))
-        adapt(kit)
+        give_all_jobs(kit)
+        leave_sums(kit)
     except (Exception, SystemExit) as error:
         say_why(error)
         os.execv(program, ["rt", "ci"])

@@ -45,7 +45,9 @@ import argparse
 import collections
 import concurrent.futures
 import contextlib
+import itertools
 import os
+import queue
 import re
 import shutil
 import subprocess
@@ -59,7 +61,7 @@ from sources import CRATES, ROOT, items, uses  # noqa: E402
 
 MUTANTS = ROOT / "tests/mutants"
 # how many mutants a reading has: more take less of the processors, and leave some idle at the end
-MOST = 30
+MOST = 45
 # complaints about a text that can't be read, and more about one that rests on something missing
 UNREAD = re.compile(
     "is not in scope|has no field|is no name|operand is missing|expected the end|cannot continue"
@@ -160,29 +162,26 @@ def below(crate):
     return found
 
 
-def link_or_copy(source, target):
-    """Shares a file of out/, which are gigabytes in all: rt replaces such files, and edits none."""
-    if Path(source).relative_to(CRATES).parts[1] == "out":
-        with contextlib.suppress(OSError):
-            return os.link(source, target)
-    return shutil.copy2(source, target)
+def share(source, target):
+    """Shares what is built, which are gigabytes in all: rt replaces such files, and edits none."""
+    if source.is_dir():
+        target.parent.mkdir(exist_ok=True)
+        words = ["-T", source, target]
+        # on another disk nothing can be shared
+        if subprocess.call(["cp", "-al", *words], stderr=subprocess.DEVNULL):
+            subprocess.check_call(["cp", "-a", *words])
 
 
 @contextlib.contextmanager
 def copy_of(crate):
-    """A copy of the crates, with the kept work of this one and those below."""
-    needed = below(crate)
-
-    def left_out(folder, names):
-        # another check may be writing to out/ of a crate above
-        above = {"out"} if Path(folder).name not in needed else set()
-        old = set() if folder.endswith(f"/{crate}/out") else {"incremental"}
-        return [it for it in names if it in {"must-fail"} | above | old]
-
+    """A copy of the crates, with the libraries of those below this one, and its kept work."""
     with tempfile.TemporaryDirectory(prefix="mutants-") as room:
         copy = Path(room) / "crates"
-        shutil.copytree(CRATES, copy, ignore=left_out, copy_function=link_or_copy)
+        shutil.copytree(CRATES, copy, ignore=shutil.ignore_patterns("must-fail", "out"))
         shutil.copy(ROOT / "crates.txt", room)
+        for one in below(crate):
+            share(CRATES / one / "out/rlib", copy / one / "out/rlib")
+        share(CRATES / crate / "out/incremental", copy / crate / "out/incremental")
         yield copy / crate
 
 
@@ -302,36 +301,47 @@ def not_proved(crate):
 
 
 def tasks(crate):
-    """What tries the crate's mutants: each gives how many were refused, and how many failed."""
+    """What tries the crate's mutants: how many at once, and what gives how many of them failed."""
     mutants = [read_mutant(path) for path in paths_of(crate)]
     bodies = callers_first(crate, [mutant for mutant in mutants if mutant.is_body])
-    found = [together(crate, reading) for reading in readings(crate, bodies)]
-    found += [alone(crate, mutant) for mutant in mutants if not mutant.is_body]
-    return [lambda found=it: told(crate, found) for it in found]
+    found = [(len(reading[0]), together(crate, reading)) for reading in readings(crate, bodies)]
+    found += [(1, alone(crate, mutant)) for mutant in mutants if not mutant.is_body]
+    return [(number, lambda found=it: told(crate, found)) for number, it in found]
 
 
-def begin(beside, trying, crate, prove):
-    """Adds to `trying` what tries the crate's mutants, once `prove` says that it is proved."""
+class Trying:
+    """Tries mutants in a pool: of the checks that wait first the one with most of them."""
 
-    def try_all():
-        if not prove(crate):
-            return not_proved(crate)
-        trying.extend(beside.submit(task) for task in tasks(crate))
-        return 0, 0
+    def __init__(self, pool):
+        self.pool, self.results = pool, []
+        self.waiting, self.numbers = queue.PriorityQueue(), itertools.count()
 
-    trying.append(beside.submit(try_all))
+    def add(self, mutants, task):
+        self.waiting.put((-mutants, next(self.numbers), task))
+        self.results.append(self.pool.submit(lambda: self.waiting.get()[-1]()))
+
+    def begin(self, crate, prove):
+        """Adds what tries the crate's mutants, once `prove` says that the crate is proved."""
+
+        def add_all():
+            if not prove(crate):
+                return not_proved(crate)
+            for mutants, task in tasks(crate):
+                self.add(mutants, task)
+            return 0, 0
+
+        self.add(MOST + 1, add_all)
+
+    def end(self):
+        """Prints the last line once all are tried, and gives the status."""
+        refused, failed = map(sum, zip((0, 0), *(it.result() for it in self.results)))
+        print(f"{refused} refused, {failed} failed")
+        return 1 if failed or not refused else 0
 
 
 def with_mutants():
     """The crates that have mutants, lowest first."""
     return sorted(filter(paths_of, STANDS_ON), key=lambda it: len(below(it)))
-
-
-def counted(results):
-    """Prints the last line, of what all tasks gave, and gives the status."""
-    refused, failed = map(sum, zip((0, 0), *results))
-    print(f"{refused} refused, {failed} failed")
-    return 1 if failed or not refused else 0
 
 
 def arguments(crates):
@@ -348,12 +358,12 @@ def arguments(crates):
 def main():
     lowest_first = with_mutants()
     given = arguments(lowest_first)
-    with concurrent.futures.ThreadPoolExecutor(len(os.sched_getaffinity(0))) as beside:
-        trying = []
+    with concurrent.futures.ThreadPoolExecutor(len(os.sched_getaffinity(0))) as pool:
+        trying = Trying(pool)
         for crate in given.crates or lowest_first:
             is_well = given.built or is_proved(crate)
-            begin(beside, trying, crate, lambda _, is_well=is_well: is_well)
-        return counted(it.result() for it in trying)
+            trying.begin(crate, lambda _, is_well=is_well: is_well)
+        return trying.end()
 
 
 if __name__ == "__main__":

@@ -16,10 +16,11 @@ work=$(realpath -m "${3:-$(mktemp -d)}")
 [ $# -ge 3 ] || trap 'rm -rf "$work"' EXIT
 mkdir -p "$work" && cd "$work" || exit 2
 
+# The emulator isn't optimized: that takes twice the time, and chanv is optimized all the same.
 build() {
     rm -rf source && mkdir source && tar xzf "$tarball" -C source --strip-components=1 &&
     cd source && patch -s -p1 < "$here/hercules.patch" && cp "$here/chanvask.h" . &&
-    ./configure --prefix="$work/built" LIBS="-L$library -lchanv" \
+    ./configure --enable-optimization=no --prefix="$work/built" LIBS="-L$library -lchanv" \
         CPPFLAGS="-DOPTION_CHANV -I$library" && make -j"$(nproc)" && make install
 }
 
