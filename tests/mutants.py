@@ -20,7 +20,7 @@ for comments:
 Each crate is first proved as it is, from what out/ has kept, unless --built says that this was just
 done. Then a copy gets mutants of several functions, and only these functions are checked, with what
 they call. What out/ has kept serves every reading, except for these functions and those that call
-them, so those that most others call are read together.
+them. So functions that come to many others by calls are read together.
 
 Each mutant has to be refused for a goal of its own: one that the search left open, or one whose
 written answer no longer shows it. If it names goals, it has to be each of these; the copy leaves
@@ -34,7 +34,7 @@ The others are wrong definitions, with the code that computes them, and constant
 functions read. For each of these a copy is checked as far as the law or the function that has to
 refuse it, with the lemmas that its proof cites.
 
-A check runs on each processor, and gives way to other processes.
+A check runs on each processor, the one with most mutants first, and gives way to other processes.
 
 It prints a line for each mutant, with the goals, those of the second sort as (answered), or with
 the first complaint, and the processor time of each check. The last line is `N refused, M failed`,
