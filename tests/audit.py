@@ -55,22 +55,20 @@ def copy_of_all(room):
 
 
 def give(copy, crate):
-    """Gives the checkout what `rt ci` built of the crate, and says whether that has its proofs."""
+    """Gives the checkout what `rt ci` built of the crate: a program, or a library and its proofs."""
     built, out = copy / "crates" / crate / "out", CRATES / crate / "out"
     for file in (built / crate, built / f"{crate}.stamp"):
         if file.is_file():
             out.mkdir(exist_ok=True)
             shutil.copy(file, out)
     if not (built / "rlib").is_dir():
-        return False
+        return
     shutil.copytree(built / "rlib", out / "rlib")
     try:
         keep_proofs(built / f"rlib/{crate}.rlib/toolchain", out / "incremental")
-        return True
     except Exception as error:
         shutil.rmtree(out / "incremental", ignore_errors=True)
         print(f"a check has to prove {crate} once more: {error!r}", flush=True)
-        return False
 
 
 def keep_proofs(library, kept):
@@ -101,19 +99,16 @@ class Audit:
         self.left, self.given = crates, set()
         self.gives = not any(CRATES.glob("*/out/rlib"))
 
-    def begin(self, crate, has_proofs=False):
-        def prove(crate):
-            return has_proofs or is_proved(crate)
-
+    def begin(self, crate):
         self.left.remove(crate)
-        self.trying.begin(crate, is_made if crate in TARGETS else prove)
+        self.trying.begin(crate, is_made if crate in TARGETS else is_proved)
 
     def proved(self, crate):
         if self.gives and crate not in self.given:
             self.given.add(crate)
-            has_proofs = give(self.copy, crate)
+            give(self.copy, crate)
             if crate in self.left:
-                self.begin(crate, has_proofs)
+                self.begin(crate)
 
     def prove(self):
         """The status of `rt ci`, after which all that it proved is given."""
