@@ -35,7 +35,7 @@ from mutants import (  # noqa: E402
     ROOT,
     STANDS_ON,
     Trying,
-    is_proved,
+    is_proved_in_copy,
     with_mutants,
 )
 
@@ -55,7 +55,7 @@ def copy_of_all(room):
 
 
 def give(copy, crate):
-    """Gives the checkout what `rt ci` built of the crate: a program, or a library and its proofs."""
+    """Gives the checkout what `rt ci` built of the crate: program, or library with its proofs."""
     built, out = copy / "crates" / crate / "out", CRATES / crate / "out"
     for file in (built / crate, built / f"{crate}.stamp"):
         if file.is_file():
@@ -101,7 +101,7 @@ class Audit:
 
     def begin(self, crate):
         self.left.remove(crate)
-        self.trying.begin(crate, is_made if crate in TARGETS else is_proved)
+        self.trying.begin(crate, is_made if crate in TARGETS else is_proved_in_copy)
 
     def proved(self, crate):
         if self.gives and crate not in self.given:

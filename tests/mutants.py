@@ -185,6 +185,17 @@ def copy_of(crate):
         yield copy / crate
 
 
+def is_proved_in_copy(crate):
+    """The same of a copy, since `rt` waits for checks of crates below; what it keeps is kept."""
+    with copy_of(crate) as copy:
+        is_well = called(["check", "--jobs=1"], copy, "as it is")[1] == 0
+        if is_well:
+            kept = CRATES / crate / "out/incremental"
+            shutil.rmtree(kept, ignore_errors=True)
+            shutil.move(copy / "out/incremental", kept)
+        return is_well
+
+
 def check_with(crate, texts, functions, what):
     """The output of `rt check` on these functions, with these texts in place of the crate's."""
     only = [word for name in functions for word in ("--only", name)]
