@@ -35,6 +35,7 @@ from mutants import (  # noqa: E402
     ROOT,
     STANDS_ON,
     Trying,
+    is_proved,
     is_proved_in_copy,
     with_mutants,
 )
@@ -101,7 +102,8 @@ class Audit:
 
     def begin(self, crate):
         self.left.remove(crate)
-        self.trying.begin(crate, is_made if crate in TARGETS else is_proved_in_copy)
+        prove = is_proved_in_copy if crate in self.given else is_proved
+        self.trying.begin(crate, is_made if crate in TARGETS else prove)
 
     def proved(self, crate):
         if self.gives and crate not in self.given:

@@ -1,5 +1,5 @@
 #!/usr/bin/env python3
-"""Runs `rt ci`, the kit's gate, with all processors, and leaves what comes after it can begin with.
+"""Runs `rt ci`, the kit's gate, on all processors, so that what it builds serves later steps.
 
 When a proof starts, `rt ci` shares the idle processors out among all proofs that wait, even for
 tests that a crate doesn't have. So the crate for which most others wait gets one job, and the other
@@ -9,8 +9,8 @@ processors stay idle. Here each proof gets a job for each processor.
 sources beside a program. Here libraries are those that `rt lib` builds, and a program has the sum
 by which `rt run` sees that nothing has changed.
 
-All else is the kit's own: what it proves, how, and what it prints. If the kit runs its proofs in
-another way, this is `rt ci` as it is.
+All else is the kit's own: what it proves, how, and what it prints. What the kit does otherwise than
+is expected here stays as it is.
 """
 
 import copy
@@ -69,7 +69,7 @@ def leave_sums(kit):
 
 
 def say_why(error):
-    print(f"this is rt ci as it is: {error!r}", flush=True)
+    print(f"rt ci stays as the kit has it: {error!r}", flush=True)
 
 
 def main():

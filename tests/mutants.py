@@ -150,8 +150,10 @@ def called(words, folder, what):
 
 
 def is_proved(crate):
-    """Whether the crate is proved as it is, which takes seconds if out/ has kept its proofs."""
-    return called(["check", "--jobs=1"], CRATES / crate, "as it is")[1] == 0
+    """Whether the crate is proved as it is, which takes no time if `make` has built it."""
+    folder = CRATES / crate
+    command = "lib" if (folder / "src/lib.rt").is_file() else "check"
+    return called([command], folder, "as it is")[1] == 0
 
 
 def below(crate):
@@ -163,7 +165,7 @@ def below(crate):
 
 
 def share(source, target):
-    """Shares what is built, which are gigabytes in all: rt replaces such files, and edits none."""
+    """Shares a folder of out/, gigabytes in all: `rt` replaces the files there, and edits none."""
     if source.is_dir():
         target.parent.mkdir(exist_ok=True)
         words = ["-T", source, target]
@@ -186,7 +188,10 @@ def copy_of(crate):
 
 
 def is_proved_in_copy(crate):
-    """The same of a copy, since `rt` waits for checks of crates below; what it keeps is kept."""
+    """Whether a copy of the crate is proved as it is. What that check keeps serves its mutants.
+
+    In place it would wait for such checks of the crates below.
+    """
     with copy_of(crate) as copy:
         is_well = called(["check", "--jobs=1"], copy, "as it is")[1] == 0
         if is_well:
@@ -312,7 +317,7 @@ def not_proved(crate):
 
 
 def tasks(crate):
-    """What tries the crate's mutants: how many at once, and what gives how many of them failed."""
+    """For each check of the crate's mutants how many it has, and what tries and counts them."""
     mutants = [read_mutant(path) for path in paths_of(crate)]
     bodies = callers_first(crate, [mutant for mutant in mutants if mutant.is_body])
     found = [(len(reading[0]), together(crate, reading)) for reading in readings(crate, bodies)]
