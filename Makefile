@@ -23,8 +23,8 @@ LIBRARIES = ccw_core ckd_core chan_args chan_areas chan_walk chan_needs chan_why
 # The deck that `make try` explains the verdict on.
 DECK ?= examples/changes-argument.deck
 
-.PHONY: run libraries $(LIBRARIES) test audit proofs mutants unit_tests lib install uninstall try
-.PHONY: rustc table can_prove can_link can_test
+.PHONY: run libraries $(LIBRARIES) test audit proofs mutants unit_tests lib link install uninstall
+.PHONY: try rustc table can_prove can_link can_test
 
 run: libraries
 	cd crates/chanv && rt run --jobs $(JOBS) < stdin
@@ -87,6 +87,9 @@ unit_tests: libraries
 # chanv's calls, in an archive and a shared library, each of which links by itself.
 lib: can_link
 	cd crates/chanv_c && rt lib --jobs $(JOBS)
+	$(MAKE) --no-print-directory link
+
+link:
 	mkdir -p out
 	cp crates/chanv_c/include/chanv.h out/chanv.h
 	$(CC) -std=c99 -O2 -fPIC $(CFLAGS) -Iout -c -o out/chanv_c.o c/chanv.c

@@ -42,8 +42,9 @@ from mutants import (  # noqa: E402
 
 # how `rt ci` says that it has proved a crate, or has kept it from an earlier run
 PROVED = re.compile(r"rt: (\w+) (?:proved$|is kept: )")
-# the targets of make for what isn't a library of other crates
+# the targets of make for what isn't a library of other crates, and for a library for C that is built
 TARGETS = {"chanv": "run", "chanv_c": "lib"}
+LINK = "link"
 
 
 def copy_of_all(room):
@@ -58,7 +59,8 @@ def copy_of_all(room):
 def give(copy, crate):
     """Gives the checkout what `rt ci` built of the crate: program, or library with its proofs."""
     built, out = copy / "crates" / crate / "out", CRATES / crate / "out"
-    for file in (built / crate, built / f"{crate}.stamp"):
+    archive = built / f"rlib/{crate}.rlib/lib{crate}.a"
+    for file in (built / crate, built / f"{crate}.stamp", archive):
         if file.is_file():
             out.mkdir(exist_ok=True)
             shutil.copy(file, out)
@@ -87,9 +89,8 @@ def keep_proofs(library, kept):
     (kept / "modules").rename(kept / kernel.replace("/", "_"))
 
 
-def is_made(crate):
-    """Builds what isn't a library of other crates, and says whether it could."""
-    return not subprocess.call(["make", TARGETS[crate]], cwd=ROOT, stdin=subprocess.DEVNULL)
+def is_made(target):
+    return not subprocess.call(["make", target], cwd=ROOT, stdin=subprocess.DEVNULL)
 
 
 class Audit:
@@ -102,8 +103,15 @@ class Audit:
 
     def begin(self, crate):
         self.left.remove(crate)
-        prove = is_proved_in_copy if crate in self.given else is_proved
-        self.trying.begin(crate, is_made if crate in TARGETS else prove)
+        self.trying.begin(crate, self.is_ready)
+
+    def is_ready(self, crate):
+        """Whether the crate is proved in the checkout, and what isn't a library of others built."""
+        if crate in self.given and (CRATES / crate / f"out/lib{crate}.a").is_file():
+            return is_made(LINK) and is_proved_in_copy(crate)
+        if crate in TARGETS:
+            return is_made(TARGETS[crate])
+        return is_proved_in_copy(crate) if crate in self.given else is_proved(crate)
 
     def proved(self, crate):
         if self.gives and crate not in self.given:

@@ -1,13 +1,15 @@
 #!/usr/bin/env python3
-"""Runs `rt ci`, the kit's gate, on all processors, so that what it builds serves later steps.
+"""Runs `rt ci`, the kit's gate, so that what it builds serves later steps.
 
-When a proof starts, `rt ci` shares the idle processors out among all proofs that wait, even for
-tests that a crate doesn't have. So the crate for which most others wait gets one job, and the other
-processors stay idle. Here each proof gets a job for each processor.
+By itself `rt ci` gives a proof as many jobs as there are idle processors, one if other proofs wait.
+Each job loads all the libraries below the crate, which takes up to a minute. Here a proof gets a
+job for each thousand lines of its sources, but no more than half of the processors: mutants take
+the others.
 
-`rt ci` builds libraries that hold what they state, without the proofs, and leaves no sum of the
-sources beside a program. Here libraries are those that `rt lib` builds, and a program has the sum
-by which `rt run` sees that nothing has changed.
+`rt ci` builds libraries that hold what they state, without the proofs, leaves no sum of the sources
+beside a program, and builds no static library. Here libraries are those that `rt lib` builds, a
+program has the sum by which `rt run` sees that nothing has changed, and a static library is built
+from what was proved.
 
 All else is the kit's own: what it proves, how, and what it prints. What the kit does otherwise than
 is expected here stays as it is.
@@ -22,6 +24,9 @@ import sys
 
 sys.dont_write_bytecode = True
 
+# how many lines of sources make it worth that a job loads the libraries
+LINES_OF_A_JOB = 1000
+
 
 def kit_at(path):
     """The program `rt` as a module."""
@@ -31,14 +36,15 @@ def kit_at(path):
     return kit
 
 
-def give_all_jobs(kit):
-    """Has each proof of `rt ci` take as many jobs as there are processors."""
-    in_lanes, jobs = kit.in_lanes, kit.processors()
+def share_out_jobs(kit):
+    """Has each proof of `rt ci` take jobs by its crate's size, and libraries keep their proofs."""
+    in_lanes, most = kit.in_lanes, max(kit.processors() // 2, 1)
 
     def task(waits, lines, needs, call):
+        jobs = min(max(lines // LINES_OF_A_JOB, 1), most)
         return waits, lines, needs, lambda given, _: call(given, jobs)
 
-    def in_lanes_with_all_jobs(tasks):
+    def in_lanes_by_size(tasks):
         try:
             tasks = {name: task(*it) for name, it in tasks.items()}
         except TypeError as error:
@@ -47,7 +53,7 @@ def give_all_jobs(kit):
         kit.Crate.cuts_libraries = False
         return in_lanes(tasks)
 
-    kit.in_lanes = in_lanes_with_all_jobs
+    kit.in_lanes = in_lanes_by_size
 
 
 def leave_sums(kit):
@@ -68,6 +74,32 @@ def leave_sums(kit):
     kit.Crate.ci = prove_and_leave_sum
 
 
+def build_static_libraries(kit):
+    """Has `rt ci` build each static library from what it proved, and leave it with its proofs."""
+    prove = kit.Crate.ci
+
+    def prove_and_build(crate, flags, tests):
+        if tests or not crate.is_static:
+            return prove(crate, flags, tests)
+        words, made = crate.words(flags, keeps=False), f"out/rlib/{crate.name}.rlib"
+        os.makedirs(f"{crate.folder}/out/rlib", exist_ok=True)
+        status = crate.prove(["check", *words, "-o", made])
+        if status == 0:
+            build(kit, crate, words, made)
+        return status
+
+    kit.Crate.ci = prove_and_build
+
+
+def build(kit, crate, words, made):
+    """Compiles a static library that was proved. Without it, `make lib` proves it once more."""
+    for flag in ("--logic-built", "--jobs"):
+        at = words.index(flag)
+        words = [*words[:at], *words[at + 2 :]]
+    more = ["--crate-checked", made, "--toolchain", f"{kit.KIT}/toolchain"]
+    crate.call(kit.rtlib.RATTLE, "build", *words, *more, "-o", f"{made}/lib{crate.name}.a")
+
+
 def say_why(error):
     print(f"rt ci stays as the kit has it: {error!r}", flush=True)
 
@@ -76,8 +108,9 @@ def main():
     program = shutil.which("rt") or sys.exit("tests/kit_gate.py: no program rt")
     try:
         kit = kit_at(os.path.realpath(program))
-        give_all_jobs(kit)
+        share_out_jobs(kit)
         leave_sums(kit)
+        build_static_libraries(kit)
     except (Exception, SystemExit) as error:
         say_why(error)
         os.execv(program, ["rt", "ci"])

@@ -46,6 +46,7 @@ import collections
 import concurrent.futures
 import contextlib
 import itertools
+import math
 import os
 import queue
 import re
@@ -102,12 +103,17 @@ def read_mutant(path):
     return Mutant(path, function, is_body, goals, changes)
 
 
+def text_of(crate, file, texts):
+    """The text of a crate's file, if these texts don't have another, or none if there is no file."""
+    path = CRATES / crate / file
+    return texts.get(file) or (path.read_text() if path.is_file() else "")
+
+
 def applied(crate, mutant, texts):
     """The texts of files with the mutant, or None if an old text isn't in one exactly once."""
     texts = dict(texts)
     for file, old, new in mutant.changes:
-        path = CRATES / crate / file
-        text = texts.get(file) or (path.read_text() if path.is_file() else "")
+        text = text_of(crate, file, texts)
         if text.count(old) != 1:
             return None
         texts[file] = text.replace(old, new)
@@ -125,8 +131,7 @@ def left_to_search(crate, mutant, texts):
     """These texts, with the goals that the mutant names left to the search by name."""
     folder = folder_of(crate, mutant)
     file, goals = f"{folder}/Answers.antt", f"Rattle.{crate}.{folder.replace('/', '.')}.Goals"
-    path = CRATES / crate / file
-    text = path.read_text() if path.is_file() else ""
+    text = text_of(crate, file, texts)
     uses = {
         r"(?m)^use .*[{ ]rules[,}]": "use Rattle.std.proofs.Common.{rules}",
         "Goals as goal": f"use {goals} as goal",
@@ -234,21 +239,32 @@ def callers_first(crate, mutants):
     return sorted(mutants, key=lambda it: -len(come_to.get(it.function, ())))
 
 
+def share_no_goal(mutant, other):
+    """Whether a goal that is refused tells which of the two mutants it is refused for."""
+    are_named = mutant.goals and other.goals and not {*mutant.goals} & {*other.goals}
+    return mutant.function != other.function or are_named
+
+
 def readings(crate, mutants):
-    """Shares out mutants of single functions, no two of a function or of a place to a reading.
+    """Shares out mutants of single functions evenly, no two to a reading that share a goal or place.
 
     Gives the mutants of each reading and the texts of files with all of them: no texts for one that
     fits no file.
     """
-    found = []
+    found, number = [], math.ceil(len(mutants) / MOST)
     for mutant in mutants:
+        fitting = []
         for group, texts in found:
             more = applied(crate, mutant, texts)
-            functions = [it.function for it in group]
-            if more and texts and len(group) < MOST and mutant.function not in functions:
-                group.append(mutant)
-                texts.update(left_to_search(crate, mutant, more))
-                break
+            if more and texts and all(share_no_goal(mutant, it) for it in group):
+                fitting.append((group, texts, more))
+        with_room = [it for it in fitting if len(it[0]) < len(mutants) / number]
+        # one more reading costs more than a mutant too many
+        where = with_room or (fitting if len(found) >= number else [])
+        if where:
+            group, texts, more = where[0]
+            group.append(mutant)
+            texts.update(left_to_search(crate, mutant, more))
         else:
             texts = applied(crate, mutant, {})
             found.append(([mutant], left_to_search(crate, mutant, texts) if texts else {}))
