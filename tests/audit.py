@@ -26,6 +26,7 @@ import shutil
 import subprocess
 import sys
 import tempfile
+import time
 from pathlib import Path
 
 sys.dont_write_bytecode = True
@@ -42,6 +43,7 @@ from mutants import (  # noqa: E402
 
 # how `rt ci` says that it has proved a crate, or has kept it from an earlier run
 PROVED = re.compile(r"rt: (\w+) (?:proved$|is kept: )")
+START = time.monotonic()
 # the targets of make for what isn't a library of other crates, and for a library for C that is built
 TARGETS = {"chanv": "run", "chanv_c": "lib"}
 LINK = "link"
@@ -130,10 +132,17 @@ class Audit:
                 print(line, end="", flush=True)
                 found = PROVED.match(line)
                 if found:
+                    say_when(f"{found[1]} was proved")
                     self.proved(found[1])
         for crate in STANDS_ON if proving.returncode == 0 else ():
             self.proved(crate)
+        say_when("rt ci ended")
         return proving.returncode
+
+
+def say_when(what):
+    minutes, seconds = divmod(int(time.monotonic() - START), 60)
+    print(f"{what}, {minutes}:{seconds:02} after the start", flush=True)
 
 
 def main():
@@ -153,7 +162,9 @@ def main():
         shutil.copy(audit.copy / "crates/unit_tests/out/unit_tests_tests", ROOT / "out/unit_tests")
         for crate in [*audit.left]:
             audit.begin(crate)
-        return audit.trying.end() if crates else 0
+        status = audit.trying.end() if crates else 0
+    say_when("the audit ended")
+    return status
 
 
 if __name__ == "__main__":

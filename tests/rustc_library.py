@@ -4,7 +4,7 @@ The Rust part is built under AddressSanitizer, with each overflow and each asser
 library checked; the C file and the programs of c/ are under UndefinedBehaviorSanitizer too. The
 programs of c/ have to write over it what they write over the proved library, and tests of Python
 run over it; if RUSTC_JOBS is set, as in the gate, so do those that take long: rooms of all sizes,
-the rest of Python, races, and programs that change. Each growth of memory is refused, without
+the rest of Python, races of 5 seconds, and programs that change. Each growth of memory is refused, without
 sanitizers, which have their own memory.
 
 Without cargo or the crates the test is left out, by its name. If this compiler has no
@@ -68,6 +68,8 @@ def check_growths(checks, room):
 def check_tests(checks, library, chanv, is_whole):
     """Runs tests of tests/run over the library, and counts what they count."""
     compiler = {**os.environ, "CC": shlex.join([*c_compiler(), *library.flags])}
+    # sanitizers find a fault of memory in any run, so that no answer has to come
+    compiler["RACE_SECONDS"] = ""
     groups = [(IN_PYTHON + LONG_IN_PYTHON * is_whole, compiler | library.environment)]
     groups += [(LONG_IN_C, compiler)] * is_whole
     where = ["--library", library.folder, "--program", chanv]

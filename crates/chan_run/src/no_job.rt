@@ -3,6 +3,7 @@
 ghost use Rattle.std.specs.Prelude.{◌≡◌, ◌+◌, ◌≤◌, ◌^◌, length, string_bytes, IfOk};
 ghost use Rattle.chan_run.specs.Name.{name_in};
 ghost use Rattle.chan_run.specs.NoJob.{IsExplainedOpenly, IsNoJobText, cure_note, is_of_ends};
+ghost use Rattle.chan_walk.specs.JobSurvey.{IsSurvey};
 ghost use Rattle.chan_walk.specs.OpenJob.{IsOpenJob};
 ghost use Rattle.chan_walk.specs.declared.job.Job.{Job};
 ghost use Rattle.ccw_core.specs.declared.ccw.TheConstants.{STORAGE_LIMIT};
@@ -14,7 +15,7 @@ use crate::output::why_text;
 use ccw_core::{Area, STORAGE_LIMIT, Storage};
 use chan_args::Explained;
 use chan_deck::{place_image, storage_note};
-use chan_walk::{Evidence, Job, OpenJob, Reason, Verdict, WalkError, survey};
+use chan_walk::{Evidence, Job, OpenJob, Reason, Survey, Verdict, WalkError, survey};
 use chan_why::{Witness, witness_from};
 use std::alloc::{AllocError, Global};
 
@@ -57,12 +58,39 @@ fn open_explanation(alloc: Global, job: &Job, read: Area) -> Result<String, Walk
     };
     let open_job = open.job();
     let survey = survey(alloc, &open_job)?;
-    let explanation = why_text(alloc, Explained::First, &open_job, &survey)?;
-    let cure = cure_note(alloc, &open_job, survey.verdict())?;
-    let witness = witness_from(alloc, &survey)?;
-    let outside = outside_note(alloc, &open_job, &witness, read)?;
-    let start = start_note(alloc, &open_job, survey.verdict(), read)?;
-    Ok(format!(in alloc; "{explanation}{cure}{outside}{start}")?)
+    Ok(surveyed_explanation(alloc, &open_job, &survey, read)?)
+}
+
+/// The explanation of the verdict on an open job that was surveyed, and the notes on how to cure
+/// it.
+fn surveyed_explanation(
+    alloc: Global,
+    open_job: &Job,
+    survey: &Survey,
+    read: Area,
+) -> Result<String, AllocError>
+    requires { IsSurvey open_job.now survey.now }
+    ensures { IfOk result (λ text. IsExplainedOpenly open_job.now (string_bytes text)) }
+{
+    let explanation = why_text(alloc, Explained::First, open_job, survey)?;
+    let cure = cure_note(alloc, open_job, survey.verdict())?;
+    let unread = unread_notes(alloc, open_job, survey, read)?;
+    Ok(format!(in alloc; "{explanation}{cure}{unread}")?)
+}
+
+/// The notes on what the path and the start have outside the bytes that were read. Tests hold them.
+fn unread_notes(
+    alloc: Global,
+    open_job: &Job,
+    survey: &Survey,
+    read: Area,
+) -> Result<String, AllocError>
+    requires { IsSurvey open_job.now survey.now }
+{
+    let witness = witness_from(alloc, survey)?;
+    let outside = outside_note(alloc, open_job, &witness, read)?;
+    let start = start_note(alloc, open_job, survey.verdict(), read)?;
+    format!(in alloc; "{outside}{start}")
 }
 
 /// The note on the first CCW of the path, or byte of the cause's argument, that wasn't read, if one

@@ -1,6 +1,7 @@
 //! What an action asks for of a job that was judged.
 
 ghost use Rattle.std.specs.Prelude.{◌≡◌, ◌++◌, List, ℕ, true, IfOk, string_bytes};
+ghost use Rattle.chan_args.specs.declared.action.Action.TheVariants as actions;
 ghost use Rattle.chan_deck.specs.Graph.{IsPictureOf};
 ghost use Rattle.chan_deck.specs.Listing.{seen_listing};
 ghost use Rattle.chan_deck.specs.VerdictLine.{verdict_line};
@@ -20,7 +21,7 @@ use chan_deck::{
     write_seen,
 };
 use chan_needs::needs_from;
-use chan_walk::{Evidence, Job, Look, Offence, Survey, Verdict};
+use chan_walk::{Evidence, Job, Look, Offence, Place, Survey, Verdict};
 use chan_why::{causes_from, witness_from, witness_of};
 use std::alloc::{AllocError, Global};
 
@@ -37,30 +38,81 @@ pub(crate) fn output_of(
         (first_verdict survey.offences) text.items) }
 {
     match action {
-        Action::Verify => {
-            let line = verdict_text(alloc, survey.verdict())?;
-            text_after(alloc, naming.name, line)
-        }
-        Action::List { wide } => {
-            let verdict = survey.verdict();
-            let (looks, offences) = survey.into_parts();
-            if wide {
-                return wide_text(alloc, naming, job, &looks, &offences, verdict);
-            }
-            listing_text(alloc, naming, looks.as_slice(), verdict)
-        }
-        Action::Why(explained) => {
-            let why = why_text(alloc, explained, job, &survey)?;
-            text_after(alloc, naming.name, why)
-        }
-        Action::Needs { deck } => {
-            let mut text = heading_of(alloc, naming)?;
-            let needed = needed_text(alloc, deck, job, &survey)?;
-            text.extend_from_slice(needed.as_slice())?;
-            Ok(text)
-        }
+        Action::Verify => verdict_output(alloc, naming.name, survey.verdict()),
+        Action::List { wide } => list_output(alloc, naming, wide, job, survey),
+        Action::Why(explained) => why_output(alloc, naming.name, explained, job, &survey),
+        Action::Needs { deck } => needs_output(alloc, naming, deck, job, &survey),
         Action::Graph => picture_of(alloc, naming.name, job, survey),
     }
+}
+
+/// The line of a verdict after the name of the input.
+fn verdict_output(
+    alloc: Global,
+    name: Option<&str>,
+    verdict: Verdict,
+) -> Result<Vec<u8>, AllocError>
+    ensures { IfOk result (λ text. text.items
+        ≡ name_before (name_in name.entry) true ++ verdict_line verdict) }
+{
+    let line = verdict_text(alloc, verdict)?;
+    text_after(alloc, name, line)
+}
+
+/// The listing of the places, or the wide one, behind its heading.
+fn list_output(
+    alloc: Global,
+    naming: Naming<'_>,
+    wide: bool,
+    job: &Job,
+    survey: Survey,
+) -> Result<Vec<u8>, AllocError>
+    requires { IsSurvey job.now survey }
+    ensures { IfOk result (λ text. IsActionOutput naming.entry (actions.List wide) job.now
+        (first_verdict survey.offences) text.items) }
+{
+    let verdict = survey.verdict();
+    let (looks, offences) = survey.into_parts();
+    if wide {
+        return wide_text(alloc, naming, job, &looks, &offences, verdict);
+    }
+    listing_text(alloc, naming, looks.as_slice(), verdict)
+}
+
+/// The explanation of the verdict after the name of the input.
+fn why_output(
+    alloc: Global,
+    name: Option<&str>,
+    explained: Explained,
+    job: &Job,
+    survey: &Survey,
+) -> Result<Vec<u8>, AllocError>
+    requires { IsSurvey job.now survey.now }
+    ensures { IfOk result (λ text. (why : List ℕ)
+        × IsExplained explained job.now (first_verdict survey.now.offences) why
+        × (text.items ≡ name_before (name_in name.entry) true ++ why)) }
+{
+    let why = why_text(alloc, explained, job, survey)?;
+    text_after(alloc, name, why)
+}
+
+/// What is needed, behind its heading.
+fn needs_output(
+    alloc: Global,
+    naming: Naming<'_>,
+    deck: bool,
+    job: &Job,
+    survey: &Survey,
+) -> Result<Vec<u8>, AllocError>
+    requires { IsSurvey job.now survey.now }
+    ensures { IfOk result (λ text. (needed : List ℕ)
+        × IsNeeded deck job.now (first_verdict survey.now.offences) needed
+        × (text.items ≡ heading_of naming.entry ++ needed)) }
+{
+    let mut text = heading_of(alloc, naming)?;
+    let needed = needed_text(alloc, deck, job, survey)?;
+    text.extend_from_slice(needed.as_slice())?;
+    Ok(text)
 }
 
 /// The listing of these looks and this verdict behind its heading.
@@ -98,6 +150,29 @@ fn wide_text(
     Ok(text)
 }
 
+/// What a picture shows of a job beside its places: the causes of the offences, where the path is
+/// stored over, and the notes.
+#[derive(Drop)]
+struct Remarks {
+    causes: Vec<Evidence>,
+    stored_over: Option<Place>,
+    notes: Vec<u8>,
+}
+
+/// The remarks on a job that was surveyed. Tests hold them.
+fn remarks_on(alloc: Global, job: &Job, survey: &Survey) -> Result<Remarks, AllocError>
+    requires { IsSurvey job.now survey.now }
+{
+    let causes = causes_from(alloc, survey)?;
+    let stored_over = witness_from(alloc, survey)?.stored_over;
+    let notes = job_advice(alloc, false, Explained::First, job, survey)?;
+    Ok(Remarks {
+        causes,
+        stored_over,
+        notes,
+    })
+}
+
 /// The picture of a job that was surveyed. Tests hold its text behind the title.
 fn picture_of(
     alloc: Global,
@@ -109,9 +184,24 @@ fn picture_of(
     ensures { IfOk result (λ text. IsPictureOf (name_in name.entry)
         (first_verdict survey.offences) text.items) }
 {
-    let causes = causes_from(alloc, &survey)?;
-    let stored_over = witness_from(alloc, &survey)?.stored_over;
-    let notes = job_advice(alloc, false, Explained::First, job, &survey)?;
+    match remarks_on(alloc, job, &survey) {
+        Ok(remarks) => picture_with(alloc, name, job, survey, &remarks),
+        Err(refused) => Err(refused),
+    }
+}
+
+/// The picture of a job that was surveyed, with these remarks.
+fn picture_with(
+    alloc: Global,
+    name: Option<&str>,
+    job: &Job,
+    survey: Survey,
+    remarks: &Remarks,
+) -> Result<Vec<u8>, AllocError>
+    requires { IsSurvey job.now survey }
+    ensures { IfOk result (λ text. IsPictureOf (name_in name.entry)
+        (first_verdict survey.offences) text.items) }
+{
     let verdict = survey.verdict();
     let (looks, offences) = survey.into_parts();
     let picture = Picture {
@@ -120,9 +210,9 @@ fn picture_of(
         verdict,
         looks: &looks,
         offences: &offences,
-        causes: &causes,
-        stored_over,
-        notes: str::from_utf8(&notes).unwrap_or(""),
+        causes: &remarks.causes,
+        stored_over: remarks.stored_over,
+        notes: str::from_utf8(&remarks.notes).unwrap_or(""),
     };
     Ok(graph_text(alloc, &picture)?.into_bytes())
 }
