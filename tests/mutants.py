@@ -216,12 +216,16 @@ def check_with(crate, texts, functions, what):
         return called(["check", "--jobs=1", *only], copy, what)[0]
 
 
-def own_goals(crate, mutant, line, said):
-    """The goals of its own for which the mutant's function, which has this line, is refused."""
+def own_goals(crate, mutant, line, said, others):
+    """The goals for which the mutant's function, which has this line, is refused.
+
+    `others` are the goals that other mutants of the function name.
+    """
     left = re.search("`search` did not prove ((?:`[^`]*`(?:, )?)*)", line)
     folder = re.escape(folder_of(crate, mutant))
     error = rf"(?m)^(?:\./)?{folder}/\w+\.antt:\d+:\d+: error: `([^`]*)`: (.*)"
     refused = [goal for goal, why in re.findall(error, said) if not LOST.search(why)]
+    refused = [goal for goal in refused if goal not in others]
     answers = [it if it in mutant.goals else f"{it} (answered)" for it in refused]
     found = [*dict.fromkeys((re.findall("`([^`]*)`", left[1]) if left else []) + answers)]
     return found if set(mutant.goals) <= set(found) else []
@@ -281,7 +285,9 @@ def tried(crate, mutants, texts):
     for mutant in mutants:
         line = re.search(rf"(?m)^fn {re.escape(f'{crate}::{mutant.function}')}: (.*)", said)
         error = re.search(r"(?m)^.*\berror(\[[\w-]+\])?: .*", said)
-        goals = own_goals(crate, mutant, line[1], said) if line else []
+        others = [it for it in mutants if it is not mutant and it.function == mutant.function]
+        theirs = {goal for other in others for goal in other.goals}
+        goals = own_goals(crate, mutant, line[1], said, theirs) if line else []
         if goals or len(mutants) == 1 or line and line[1].startswith("proved"):
             told = [it[0] for it in (line, len(mutants) == 1 and error) if it]
             yield mutant, goals, "; ".join(told)[:240] or "`rt check` doesn't name its function"
