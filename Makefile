@@ -14,7 +14,7 @@ VERSION = 0.7.0
 JOBS ?= $(shell nproc)
 
 # The kit with which all was proved last, as `rt version` names it.
-KIT = rattle-kit-13b logic dac8208d650f15bf
+KIT = rattle-kit-13f logic dac8208d650f15bf
 
 # The libraries under chanv. `rt run` in chanv finds them built, and leaves out its quick pass over
 # all sources.
@@ -89,6 +89,7 @@ lib: can_link
 	cd crates/chanv_c && rt lib --jobs $(JOBS)
 	$(MAKE) --no-print-directory link
 
+# By itself for the gate, which has proved and built the library of Rattle by then.
 link:
 	mkdir -p out
 	cp crates/chanv_c/include/chanv.h out/chanv.h

@@ -2,9 +2,9 @@
 """Runs `rt ci`, the kit's gate, so that what it builds serves later steps.
 
 By itself `rt ci` gives a proof as many jobs as there are idle processors, one if other proofs wait.
-Each job loads all the libraries below the crate, which takes up to a minute. Here a proof gets a
-job for each thousand lines of its sources, but no more than half of the processors: mutants take
-the others.
+Each job loads all the libraries below the crate, which takes up to two minutes. Here a proof gets a
+job for each thousand lines of its sources, but no more than half of the processors, and the proof
+of tests gets one. Mutants take the other processors.
 
 `rt ci` builds libraries that hold what they state, without the proofs, leaves no sum of the sources
 beside a program, and builds no static library. Here libraries are those that `rt lib` builds, a
@@ -40,13 +40,15 @@ def share_out_jobs(kit):
     """Has each proof of `rt ci` take jobs by its crate's size, and libraries keep their proofs."""
     in_lanes, most = kit.in_lanes, max(kit.processors() // 2, 1)
 
-    def task(waits, lines, needs, call):
-        jobs = min(max(lines // LINES_OF_A_JOB, 1), most)
+    def task(name, waits, lines, needs, call):
+        # no other proof waits for that of tests
+        share = 1 if name[1] == "tests" else lines // LINES_OF_A_JOB
+        jobs = min(max(share, 1), most)
         return waits, lines, needs, lambda given, _: call(given, jobs)
 
     def in_lanes_by_size(tasks):
         try:
-            tasks = {name: task(*it) for name, it in tasks.items()}
+            tasks = {name: task(name, *it) for name, it in tasks.items()}
         except TypeError as error:
             say_why(error)
         # until here the kit says that libraries shall have no proofs

@@ -260,26 +260,37 @@ pub(crate) fn verb_at(look: &Look) -> Option<&'static str> {
 
 /// The text of a row; `width` is that of the longest name in its box.
 fn row_text(alloc: Global, job: &Job, row: &Row, width: usize) -> Result<String, AllocError> {
-    let look = row.look;
-    let address = Address(look.place().address);
-    let name = name_text(alloc, job, look)?;
+    let address = Address(row.look.place().address);
+    let name = name_text(alloc, job, row.look)?;
     let mut text = format!(in alloc; "{address}  {name}")?;
+    push_data(&mut text, row.look, width.saturating_sub(name.len()))?;
+    push_until_and_stored(&mut text, row)?;
+    Ok(text)
+}
+
+/// Adds what a row does with which bytes of data, after so many blanks, if it moves data.
+fn push_data(out: &mut String, look: &Look, blanks: usize) -> Result<(), AllocError> {
     if let (Some(verb), Some(ccw)) = (verb_at(look), look.ccw()) {
-        for _ in name.len()..width {
-            text.push(' ')?;
+        for _ in 0..blanks {
+            out.push(' ')?;
         }
         let range = Range(data_of(&ccw));
-        write!(text, "  {verb:<7} {range}")?;
+        write!(out, "  {verb:<7} {range}")?;
     }
+    Ok(())
+}
+
+/// Adds by which transfer a row is repeated until it is found, and which CCW stores over it.
+fn push_until_and_stored(out: &mut String, row: &Row) -> Result<(), AllocError> {
     if let Some(transfer) = row.until {
         let transfer = Address(transfer);
-        write!(text, "  until found (TIC {transfer})")?;
+        write!(out, "  until found (TIC {transfer})")?;
     }
     if let Some(address) = row.stored_by {
         let address = Address(address);
-        write!(text, "  stored over by {address}")?;
+        write!(out, "  stored over by {address}")?;
     }
-    Ok(text)
+    Ok(())
 }
 
 /// Adds a text as it stands in a table, where several blanks would else be one.

@@ -182,6 +182,37 @@ pub(crate) struct Layout {
 }
 
 impl Layout {
+    /// The layout to which no place was added.
+    fn without_boxes(alloc: Global, scene: Scene<'_>) -> Result<Layout, AllocError> {
+        let framed = framed_rows(alloc, scene)?;
+        let mut lengths = Vec::new(alloc);
+        lengths.resize(scene.looks.len(), 0)?;
+        Ok(Layout {
+            heads: Vec::new(alloc),
+            numbers: Vec::new(alloc),
+            lengths,
+            framed,
+            boxes: 0,
+        })
+    }
+
+    /// Adds a place, whose row stands in the box that begins with the row `head`.
+    fn add(&mut self, at: usize, head: Option<usize>) -> Result<(), AllocError> {
+        if head == Some(at) {
+            self.boxes = self.boxes.saturating_add(1);
+        }
+        let mut number = 0;
+        if let Some(head) = head {
+            if head < self.lengths.len() {
+                number = self.lengths[head];
+                self.lengths[head] = number.saturating_add(1);
+            }
+        }
+        self.heads.push(head)?;
+        self.numbers.push(number)?;
+        Ok(())
+    }
+
     /// The row that begins the box of a row.
     pub(crate) fn head(&self, at: usize) -> Option<usize> {
         self.heads.get(at).copied().flatten()
@@ -268,57 +299,45 @@ fn leads_straight(row: &Row, to: usize) -> bool {
     }
 }
 
-/// Lays out a program that begins at `first`. Two rows behind each other share a box if the first
-/// leads to the second alone, nothing else leads there, neither offends, and no other row has the
-/// address of either.
+/// Lays out a program that begins at `first`.
 pub(crate) fn layout_of(
     alloc: Global,
     first: Place,
     scene: Scene<'_>,
     offences: &[Offence],
 ) -> Result<Layout, AllocError> {
-    let looks = scene.looks;
     let ways = ways_in(alloc, first, scene)?;
-    let framed = framed_rows(alloc, scene)?;
-    let stands_alone = |at: usize, row: &Row| {
-        framed.get(at).copied().unwrap_or(true) || offends(offences, row.look.place())
-    };
-    let mut heads: Vec<Option<usize>> = Vec::new(alloc);
-    let mut numbers: Vec<usize> = Vec::new(alloc);
-    let mut lengths: Vec<usize> = Vec::new(alloc);
-    lengths.resize(looks.len(), 0)?;
-    let mut boxes: usize = 0;
+    let mut layout = Layout::without_boxes(alloc, scene)?;
+    share_boxes(&mut layout, scene, ways.as_slice(), offences)?;
+    Ok(layout)
+}
+
+/// Puts each row into a box. Two rows behind each other share a box if the first leads to the
+/// second alone, nothing else leads there, neither offends, and no other row has the address of
+/// either. `ways` has how many arrows lead to each row.
+fn share_boxes(
+    layout: &mut Layout,
+    scene: Scene<'_>,
+    ways: &[u32],
+    offences: &[Offence],
+) -> Result<(), AllocError> {
     // The row before, if more may join it, and the head of its box.
     let mut open: Option<(Row, usize)> = None;
-    for at in 0..looks.len() {
+    for at in 0..scene.looks.len() {
         let Some(row) = row_at(scene, at) else {
-            heads.push(None)?;
-            numbers.push(0)?;
+            layout.add(at, None)?;
             continue;
         };
-        let is_alone = stands_alone(at, &row);
+        let is_alone = layout.is_framed(at) || offends(offences, row.look.place());
         let head = match open {
             Some((before, head))
                 if !is_alone && leads_straight(&before, at) && ways.get(at).copied() == Some(1) => {
                 head
             }
-            _ => {
-                boxes = boxes.saturating_add(1);
-                at
-            }
+            _ => at,
         };
-        heads.push(Some(head))?;
-        if head < lengths.len() {
-            numbers.push(lengths[head])?;
-            lengths[head] = lengths[head].saturating_add(1);
-        }
+        layout.add(at, Some(head))?;
         open = if is_alone { None } else { Some((row, head)) };
     }
-    Ok(Layout {
-        heads,
-        numbers,
-        lengths,
-        framed,
-        boxes,
-    })
+    Ok(())
 }

@@ -46,8 +46,7 @@ pub(crate) fn no_job_text(
     Ok(format!(in alloc; "chanv: {name}{mark}no job will do: {explanation}")?)
 }
 
-/// The explanation of the verdict on a job's open job, and the notes on how to cure it, where these
-/// bytes of storage were read.
+/// The explanation of the verdict on a job's open job, and how to cure it; `read` is what was read.
 fn open_explanation(alloc: Global, job: &Job, read: Area) -> Result<String, WalkError>
     ensures { IfOk result (λ text. (k : Job) × IsOpenJob job.now k
         × IsExplainedOpenly k (string_bytes text)) }
@@ -61,8 +60,7 @@ fn open_explanation(alloc: Global, job: &Job, read: Area) -> Result<String, Walk
     Ok(surveyed_explanation(alloc, &open_job, &survey, read)?)
 }
 
-/// The explanation of the verdict on an open job that was surveyed, and the notes on how to cure
-/// it.
+/// The explanation of the verdict on an open job that was surveyed, and how to cure it.
 fn surveyed_explanation(
     alloc: Global,
     open_job: &Job,

@@ -42,7 +42,10 @@ pub(crate) fn output_of(
         Action::List { wide } => list_output(alloc, naming, wide, job, survey),
         Action::Why(explained) => why_output(alloc, naming.name, explained, job, &survey),
         Action::Needs { deck } => needs_output(alloc, naming, deck, job, &survey),
-        Action::Graph => picture_of(alloc, naming.name, job, survey),
+        Action::Graph => match remarks_on(alloc, job, &survey) {
+            Ok(remarks) => picture_of(alloc, naming.name, job, survey, &remarks),
+            Err(refused) => Err(refused),
+        },
     }
 }
 
@@ -150,8 +153,7 @@ fn wide_text(
     Ok(text)
 }
 
-/// What a picture shows of a job beside its places: the causes of the offences, where the path is
-/// stored over, and the notes.
+/// What a picture shows beside the places: causes, the place that stores over, and notes.
 #[derive(Drop)]
 struct Remarks {
     causes: Vec<Evidence>,
@@ -175,23 +177,6 @@ fn remarks_on(alloc: Global, job: &Job, survey: &Survey) -> Result<Remarks, Allo
 
 /// The picture of a job that was surveyed. Tests hold its text behind the title.
 fn picture_of(
-    alloc: Global,
-    name: Option<&str>,
-    job: &Job,
-    survey: Survey,
-) -> Result<Vec<u8>, AllocError>
-    requires { IsSurvey job.now survey }
-    ensures { IfOk result (λ text. IsPictureOf (name_in name.entry)
-        (first_verdict survey.offences) text.items) }
-{
-    match remarks_on(alloc, job, &survey) {
-        Ok(remarks) => picture_with(alloc, name, job, survey, &remarks),
-        Err(refused) => Err(refused),
-    }
-}
-
-/// The picture of a job that was surveyed, with these remarks.
-fn picture_with(
     alloc: Global,
     name: Option<&str>,
     job: &Job,
