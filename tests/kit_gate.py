@@ -3,8 +3,8 @@
 
 By itself `rt ci` gives a proof as many jobs as there are idle processors, one if other proofs wait.
 Each job loads all the libraries below the crate, which takes up to two minutes. Here a proof gets a
-job for each thousand lines of its sources, but no more than half of the processors, and the proof
-of tests gets one. Mutants take the other processors.
+job for each thousand lines of its sources, but no more than all processors but one, and the proof
+of tests gets one. Mutants take what is left.
 
 `rt ci` builds libraries that hold what they state, without the proofs, leaves no sum of the sources
 beside a program, and builds no static library. Here libraries are those that `rt lib` builds, a
@@ -38,7 +38,7 @@ def kit_at(path):
 
 def share_out_jobs(kit):
     """Has each proof of `rt ci` take jobs by its crate's size, and libraries keep their proofs."""
-    in_lanes, most = kit.in_lanes, max(kit.processors() // 2, 1)
+    in_lanes, most = kit.in_lanes, max(kit.processors() - 1, 1)
 
     def task(name, waits, lines, needs, call):
         # no other proof waits for that of tests
