@@ -141,10 +141,10 @@ def left_to_search(crate, mutant, texts):
     return {**texts, file: "\n".join([*lines, text, *answers])} if answers else texts
 
 
-def called(words, folder, what):
+def called(words, folder, what, gives_way=True):
     """The output of a command of `rt` in a crate's folder, and its status."""
     how = {"stdout": subprocess.PIPE, "stderr": subprocess.STDOUT, "stdin": subprocess.DEVNULL}
-    words = ["nice", "rt", *words]
+    words = [*["nice"] * gives_way, "rt", *words]
     with subprocess.Popen(words, cwd=folder, text=True, errors="replace", **how) as ran:
         said = ran.stdout.read()
         _, status, used = os.wait4(ran.pid, 0)
@@ -198,7 +198,8 @@ def is_proved_in_copy(crate):
     In place it would wait for such checks of the crates below.
     """
     with copy_of(crate) as copy:
-        is_well = called(["check", "--jobs=1"], copy, "as it is")[1] == 0
+        # all mutants of the crate wait for this one
+        is_well = called(["check", "--jobs=1"], copy, "as it is", gives_way=False)[1] == 0
         if is_well:
             kept = CRATES / crate / "out/incremental"
             shutil.rmtree(kept, ignore_errors=True)
