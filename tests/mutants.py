@@ -217,16 +217,12 @@ def check_with(crate, texts, functions, what):
         return called(["check", "--jobs=1", *only], copy, what)[0]
 
 
-def own_goals(crate, mutant, line, said, others):
-    """The goals for which the mutant's function, which has this line, is refused.
-
-    `others` are the goals that other mutants of the function name.
-    """
+def own_goals(crate, mutant, line, said):
+    """The goals of its own for which the mutant's function, which has this line, is refused."""
     left = re.search("`search` did not prove ((?:`[^`]*`(?:, )?)*)", line)
     folder = re.escape(folder_of(crate, mutant))
     error = rf"(?m)^(?:\./)?{folder}/\w+\.antt:\d+:\d+: error: `([^`]*)`: (.*)"
     refused = [goal for goal, why in re.findall(error, said) if not LOST.search(why)]
-    refused = [goal for goal in refused if goal not in others]
     answers = [it if it in mutant.goals else f"{it} (answered)" for it in refused]
     found = [*dict.fromkeys((re.findall("`([^`]*)`", left[1]) if left else []) + answers)]
     return found if set(mutant.goals) <= set(found) else []
@@ -244,14 +240,8 @@ def callers_first(crate, mutants):
     return sorted(mutants, key=lambda it: -len(come_to.get(it.function, ())))
 
 
-def share_no_goal(mutant, other):
-    """Whether a goal that is refused tells which of the two mutants it is refused for."""
-    are_named = mutant.goals and other.goals and not {*mutant.goals} & {*other.goals}
-    return mutant.function != other.function or are_named
-
-
 def readings(crate, mutants):
-    """Shares out mutants of single functions evenly, no two to a reading that share a goal or place.
+    """Shares out mutants of single functions evenly, no two of a function or place to a reading.
 
     Gives the mutants of each reading and the texts of files with all of them: no texts for one that
     fits no file.
@@ -261,7 +251,7 @@ def readings(crate, mutants):
         fitting = []
         for group, texts in found:
             more = applied(crate, mutant, texts)
-            if more and texts and all(share_no_goal(mutant, it) for it in group):
+            if more and texts and mutant.function not in [it.function for it in group]:
                 fitting.append((group, texts, more))
         with_room = [it for it in fitting if len(it[0]) < len(mutants) / number]
         # one more reading costs more than a mutant too many
@@ -286,9 +276,7 @@ def tried(crate, mutants, texts):
     for mutant in mutants:
         line = re.search(rf"(?m)^fn {re.escape(f'{crate}::{mutant.function}')}: (.*)", said)
         error = re.search(r"(?m)^.*\berror(\[[\w-]+\])?: .*", said)
-        others = [it for it in mutants if it is not mutant and it.function == mutant.function]
-        theirs = {goal for other in others for goal in other.goals}
-        goals = own_goals(crate, mutant, line[1], said, theirs) if line else []
+        goals = own_goals(crate, mutant, line[1], said) if line else []
         if goals or len(mutants) == 1 or line and line[1].startswith("proved"):
             told = [it[0] for it in (line, len(mutants) == 1 and error) if it]
             yield mutant, goals, "; ".join(told)[:240] or "`rt check` doesn't name its function"
