@@ -14,20 +14,20 @@ pub(crate) fn has_needs(alloc: Global, job: &Job) -> bool {
     }
 }
 
-fn are_needed(alloc: Global, open: &Job, job: &Job) -> bool {
-    match survey(alloc, open) {
-        Ok(survey) => are_surveyed(alloc, open, &survey, job),
+fn are_needed(alloc: Global, open_job: &Job, job: &Job) -> bool {
+    match survey(alloc, open_job) {
+        Ok(survey) => are_surveyed(alloc, open_job, &survey, job),
         Err(_) => false,
     }
 }
 
-fn are_surveyed(alloc: Global, open: &Job, survey: &Survey, job: &Job) -> bool
-    requires { IsSurvey open.now survey.now }
+fn are_surveyed(alloc: Global, open_job: &Job, survey: &Survey, job: &Job) -> bool
+    requires { IsSurvey open_job.now survey.now }
 {
     if survey.verdict() != Verdict::Yes {
         return false;
     }
-    match needs_from(alloc, open, survey) {
+    match needs_from(alloc, open_job, survey) {
         Ok(needs) => are_so(alloc, &needs, job),
         Err(_) => false,
     }
