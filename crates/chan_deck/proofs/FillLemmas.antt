@@ -40,14 +40,14 @@ zero_put h es fs ss size a front w al low fits z = rw (al, le-leb (length front)
 
 -- ---- what a write leaves
 
-pub record IsWritten (S new word : List ℕ) (next a : ℕ) : Type 0 where
+pub record IsWordWritten (S new word : List ℕ) (next a : ℕ) : Type 0 where
   pub len : length new ≡ length S
   pub front : take (a + 8) new ≡ pad (take next S) a ++ word
   pub behind : drop (a + 8) new ≡ replicate (length new - (a + 8)) 0
 
 pub written : (S new word : List ℕ) (next a : ℕ) → drop next S ≡ replicate (length S - next) 0
     → next ≤ a → a + 8 ≤ length S → length word ≡ 8
-    → new ≡ (take a S ++ word) ++ drop (a + length word) S → IsWritten S new word next a
+    → new ≡ (take a S ++ word) ++ drop (a + length word) S → IsWordWritten S new word next a
 written S new word next a z low fits eight is =
     let T = take next S in
     let lenT : length T ≡ next = omega (arith, length-take next S) in
@@ -75,7 +75,7 @@ written S new word next a z low fits eight is =
 -- a put that is taken
 pub put_goes : (h : Heading) (es : List (ℕ × ℕ)) (fs ss : List Area) (a next : ℕ)
     (S new word : List ℕ)
-    → next ≤ a → a % 8 ≡ 0 → a + 8 ≤ length S → is_zero word ≡ false → IsWritten S new word next a
+    → next ≤ a → a % 8 ≡ 0 → a + 8 ≤ length S → is_zero word ≡ false → IsWordWritten S new word next a
     → step (Filling h es fs ss (length S) (take next S)) (put a word)
     ≡ Ok (Filling h es fs ss (length new) (take (a + 8) new))
 put_goes h es fs ss a next S new word low al fits z w =

@@ -1,5 +1,5 @@
 -- What one line more does to where reading stands: it goes on, or the text is refused there, or it has spelled a deck.
-use Rattle.chan_deck.proofs.Names.{[], after_line, all_append, and_then, ap, append-nil, append_assoc, arith, Cause, drop, Err, false, Found, HasForm, HasRead, Image, inl, inr, is_whole, IsDeckCause, IsDeckError, IsRefusedAt, Item, items, length, length-append, length-map, line, lines, LineSaysIfAny, List, map, map-append, MatchBool, nat_tests, None, Ok, Opening, Option, part, position, rank, refl, Result, run, Some, Spells, split, State, subst, sym, take, text, Whole, whole_line, ℕ, ◌++◌, ◌+◌, ◌-◌, ◌<◌, ◌==◌, ◌∙◌, ◌∷◌, ◌≡◌, ◌⊎◌}
+use Rattle.chan_deck.proofs.Names.{[], after_line, all_append, and_then, ap, append-nil, append_assoc, arith, Cause, drop, Err, false, FoundLine, HasForm, HasRead, Image, inl, inr, is_whole, IsDeckCause, IsDeckError, IsRefusedAt, Item, items, length, length-append, length-map, line, lines, LineSaysIfAny, List, map, map-append, MatchBool, nat_tests, None, Ok, Opening, Option, part, position, rank, refl, Result, run, Some, Spells, split, State, subst, sym, take, text, Whole, whole_line, ℕ, ◌++◌, ◌+◌, ◌-◌, ◌<◌, ◌==◌, ◌∙◌, ◌∷◌, ◌≡◌, ◌⊎◌}
 use Rattle.std.proofs.Math.Seq.{take-append_seam, drop-append_seam}
 use Rattle.chan_deck.specs.Refused.{found_in, found_behind, AreSaid, IsRefused}
 use Rattle.chan_deck.specs.declared.error.DeckError.{DeckError}
@@ -49,7 +49,7 @@ are_said t s n rest st =
     let k : n - 1 ≡ length ls = omega (arith, length-map st.said line, st.number) in
     (st.forms, sym (ap (λ j. take j (lines t)) k ∙ ap (λ (p : List (List ℕ) × List ℕ). take (length ls) p.0) st.parts ∙ take-append_seam ls (split rest).0))
 
-with_cause : (t : List ℕ) (s : State) (n : ℕ) (rest : List ℕ) (found : Found) (c : Cause)
+with_cause : (t : List ℕ) (s : State) (n : ℕ) (rest : List ℕ) (found : FoundLine) (c : Cause)
     (st : HasRead t s n rest)
     → found_in (split rest).0 (split rest).1 ≡ found → IsDeckCause (said s) found c
     → (before : List Item) × AreSaid (n - 1) t before × IsDeckCause before (found_behind (n - 1) t) c
@@ -154,7 +154,7 @@ ends t d n (b ∷ rest) st =
 
 -- ---- one refusal
 
-one_cause : (before : List Item) (found : Found) (b c : Cause) → IsDeckCause before found b → IsDeckCause before found c → b ≡ c
+one_cause : (before : List Item) (found : FoundLine) (b c : Cause) → IsDeckCause before found b → IsDeckCause before found c → b ≡ c
 one_cause before found b c hb hc =
     let no_less : rank b < rank c → ⊥ = λ lower. hc.first b lower hb.applies in
     let no_more : rank c < rank b → ⊥ = λ lower. hb.first c lower hc.applies in

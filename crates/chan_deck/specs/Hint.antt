@@ -7,7 +7,7 @@ use Rattle.ckd_core.specs.declared.device.Device.TheVariants.{D2314}
 use Rattle.chan_deck.specs.Item.{Item, header, device, mask, start, limit, extent, fetch, store}
 use Rattle.chan_deck.specs.Item.{storage, put, end, said_by}
 use Rattle.chan_deck.specs.Reading.{is_empty}
-use Rattle.chan_deck.specs.Refused.{AreSaid, Found, found_behind, is_second, last_of, may_stand}
+use Rattle.chan_deck.specs.Refused.{AreSaid, FoundLine, found_behind, is_second, last_of, may_stand}
 use Rattle.chan_deck.specs.Refused.{lines, part, split, whole_line}
 use Rattle.chan_deck.specs.declared.hint.Before.{Before}
 use Rattle.chan_deck.specs.declared.hint.Spot.{Spot}
@@ -64,11 +64,11 @@ pub record IsBehind (t : List ℕ) (n : ℕ) (b : Before) (rest : List ℕ) : Ty
   pub says : (before : List Item) → AreSaid n t before → AreBefore before b
 
 -- what is found, as a whole line or not
-abbrev pub found_as : Bool → List ℕ → Found
+abbrev pub found_as : Bool → List ℕ → FoundLine
 found_as true l = whole_line l
 found_as false l = part l
 
 -- the spot behind n lines of a text
-pub record IsSpot (t : List ℕ) (n : ℕ) (spot : Spot) : Type 0 where
+pub record IsSpotBehindLines (t : List ℕ) (n : ℕ) (spot : Spot) : Type 0 where
   pub found : found_behind n t ≡ found_as spot.is_whole spot.found.now
   pub before : (before : List Item) → AreSaid n t before → AreBefore before spot.before

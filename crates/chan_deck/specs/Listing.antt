@@ -34,25 +34,25 @@ mark_word true = codes "*"
 mark_word false = codes "."
 
 -- a command's name, or `unknown` for a code that isn't in the table
-abbrev pub command_name : Option table.Entry → List ℕ
+abbrev pub command_name : Option table.CommandEntry → List ℕ
 command_name None = codes "unknown"
 command_name (Some e) = e.name
 
 -- the command of a CCW's code
-abbrev pub command_of : Option Fields → Option table.Entry
+abbrev pub command_of : Option Fields → Option table.CommandEntry
 command_of None = None
 command_of (Some c) = lookup c.command
 
 -- what a CCW is to the operation: a transfer, a part of a data chain, where its code is ignored, or
 -- this command
-abbrev pub operation_name : Entry → Fields → Option table.Entry → List ℕ
+abbrev pub operation_name : Entry → Fields → Option table.CommandEntry → List ℕ
 operation_name entered c command =
     if is_transfer c then codes "transfer-in-channel"
     else if is_fresh entered then command_name command
     else codes "chained"
 
 -- the CCW and its name, where one stands
-abbrev pub word_text : Entry → Option Fields → Option table.Entry → List ℕ
+abbrev pub word_text : Entry → Option Fields → Option table.CommandEntry → List ℕ
 word_text entered None command = codes "no-ccw"
 word_text entered (Some c) command = ccw_text c ++ codes " " ++ operation_name entered c command
 
@@ -61,14 +61,14 @@ abbrev pub ccw_line : Fields → List ℕ
 ccw_line c = word_text Fresh (Some c) (lookup c.command) ++ 10 ∷ []
 
 -- `address way transfer mark ccw name`, for a place at which this CCW stands with this command
-abbrev pub row_words : Place → Option Fields → Option table.Entry → Bool → List ℕ
+abbrev pub row_words : Place → Option Fields → Option table.CommandEntry → Bool → List ℕ
 row_words p c command marked =
     address_text p.address ++ codes " " ++ way_word p.entered ++ codes " "
     ++ transfer_word p.after_transfer ++ codes " " ++ mark_word marked ++ codes " "
     ++ word_text p.entered c command
 
 -- the same with its line feed
-abbrev pub row_with : Place → Option Fields → Option table.Entry → Bool → List ℕ
+abbrev pub row_with : Place → Option Fields → Option table.CommandEntry → Bool → List ℕ
 row_with p c command marked = row_words p c command marked ++ 10 ∷ []
 
 -- the row of a place in this storage

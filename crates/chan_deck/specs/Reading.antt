@@ -18,14 +18,14 @@ use Rattle.chan_deck.specs.declared.cause.Cause.TheVariants as causes
 use Rattle.chan_deck.specs.declared.heading.Heading.{Heading}
 use Rattle.chan_deck.specs.declared.heading.Begun.{Begun}
 use Rattle.chan_deck.specs.declared.heading.Begun.TheVariants as heads
-use Rattle.chan_deck.specs.declared.heading.Headed.{Headed}
-use Rattle.chan_deck.specs.declared.heading.Headed.TheVariants as lines
+use Rattle.chan_deck.specs.declared.heading.HeadingLine.{HeadingLine}
+use Rattle.chan_deck.specs.declared.heading.HeadingLine.TheVariants as lines
 use Rattle.chan_deck.specs.declared.item.Item as found
 use Rattle.chan_deck.specs.declared.item.Item.TheVariants.{Missing}
 use Rattle.chan_deck.specs.declared.lines.Cursor.{Cursor}
 use Rattle.chan_deck.specs.declared.lists.Lists.{Lists}
-use Rattle.chan_deck.specs.declared.lists.Listed.{Listed}
-use Rattle.chan_deck.specs.declared.lists.Listed.TheVariants.{Taken, Storage, Refused}
+use Rattle.chan_deck.specs.declared.lists.ListLine.{ListLine}
+use Rattle.chan_deck.specs.declared.lists.ListLine.TheVariants.{Taken, Storage, Refused}
 use Rattle.chan_deck.specs.declared.error.DeckError.{DeckError}
 use Rattle.chan_deck.specs.declared.error.DeckError.TheVariants as errors
 use Rattle.ckd_core.specs.declared.device.TheConstants.{LAST_CYLINDER}
@@ -216,7 +216,7 @@ begun_state (heads.Masked h v m) = Masked h v m
 begun_state (heads.Started v m a) = Started v m a
 
 -- what came of a line of the heading
-abbrev pub headed : Headed → Result State Cause
+abbrev pub headed : HeadingLine → Result State Cause
 headed (lines.Taken b) = Ok (begun_state b)
 headed (lines.Whole h) = Ok (Listing h [] [] [])
 headed (lines.Refused c) = Err c
@@ -226,7 +226,7 @@ abbrev pub with_lists : Heading → Lists → State
 with_lists h x = Listing h x.extents.items x.fetch.items x.store.items
 
 -- what came of a line of the lists
-abbrev pub after_list_line : Heading → Lists → Listed → Result State Cause
+abbrev pub after_list_line : Heading → Lists → ListLine → Result State Cause
 after_list_line h x Taken = Ok (with_lists h x)
 after_list_line h x (Storage n) = Ok (Filling h x.extents.items x.fetch.items x.store.items n [])
 after_list_line h x (Refused c) = Err c

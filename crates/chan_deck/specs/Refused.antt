@@ -116,13 +116,13 @@ abbrev pub is_place : List Item → ℕ → Bool
 is_place before a = a % 8 == 0 && is_above (last_of before) a && nat_le (a + 8) (size_said before)
 
 -- what stands at the place of a line: the line, or what is left without a line feed
-pub data Found : Type 0 where
-  whole_line : List ℕ → Found
-  part : List ℕ → Found
+pub data FoundLine : Type 0 where
+  whole_line : List ℕ → FoundLine
+  part : List ℕ → FoundLine
 
 -- the table of causes: when each applies to what is found behind these lines, among which `end` is
 -- not
-abbrev pub Applies : List Item → Found → Cause → Type 0
+abbrev pub Applies : List Item → FoundLine → Cause → Type 0
 Applies before (part rest) Ended = Unit {0}
 Applies before (whole_line l) Header = (before ≡ []) × ((h : VersionNumber) → l ≢ line (header h))
 Applies before (whole_line l) Form = (i : Item) → LineSays l i → may_follow before i ≡ false
@@ -140,13 +140,13 @@ Applies before (whole_line l) Limit = (n : ℕ) × LineSays l (limit n) × (is_l
 Applies before found cause = ⊥
 
 -- behind `end` the cause After alone applies, whatever stands there
-abbrev pub AppliesBehindEnd : Found → Cause → Type 0
+abbrev pub AppliesBehindEnd : FoundLine → Cause → Type 0
 AppliesBehindEnd (whole_line l) After = Unit {0}
 AppliesBehindEnd (part (b ∷ rest)) After = Unit {0}
 AppliesBehindEnd found cause = ⊥
 
 -- the cause applies to what is found behind these lines
-abbrev pub CountsAgainst : List Item → Found → Cause → Type 0
+abbrev pub CountsAgainst : List Item → FoundLine → Cause → Type 0
 CountsAgainst before found cause =
     MatchBool (has_ended before) (AppliesBehindEnd found cause) (Applies before found cause)
 
@@ -165,17 +165,17 @@ rank After = 10
 rank Limit = 11
 
 -- the first cause of the table that applies
-pub record IsDeckCause (before : List Item) (found : Found) (cause : Cause) : Type 0 where
+pub record IsDeckCause (before : List Item) (found : FoundLine) (cause : Cause) : Type 0 where
   pub applies : CountsAgainst before found cause
   pub first : (other : Cause) → rank other < rank cause → CountsAgainst before found other → ⊥
 
 -- what comes first of some whole lines and what is left
-abbrev pub found_in : List (List ℕ) → List ℕ → Found
+abbrev pub found_in : List (List ℕ) → List ℕ → FoundLine
 found_in [] rest = part rest
 found_in (l ∷ ls) rest = whole_line l
 
 -- what is found behind n whole lines
-abbrev pub found_behind : ℕ → List ℕ → Found
+abbrev pub found_behind : ℕ → List ℕ → FoundLine
 found_behind n t = found_in (drop n (lines t)) (split t).1
 
 -- these are what the first n whole lines say

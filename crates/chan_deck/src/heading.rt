@@ -35,7 +35,7 @@ enum Begun {
 
 /// What came of a line of the heading.
 #[derive(Clone, Copy)]
-enum Headed {
+enum HeadingLine {
     Taken(Begun),
     Whole(Heading),
     Refused(Cause),
@@ -43,48 +43,48 @@ enum Headed {
 
 impl Begun {
     /// Takes what a line says.
-    fn take(self, item: Item) -> Headed
+    fn take(self, item: Item) -> HeadingLine
         ensures { after_line (begun_state self) (said_by item) ≡ headed result }
     {
         match self {
             Begun::Opening => match item {
-                Item::Header(number) => Headed::Taken(Begun::Named(number)),
-                _ => Headed::Refused(Cause::Header),
+                Item::Header(number) => HeadingLine::Taken(Begun::Named(number)),
+                _ => HeadingLine::Refused(Cause::Header),
             },
             Begun::Named(number) => match item {
-                Item::Device(device) => Headed::Taken(Begun::OnDevice(number, device)),
-                _ => Headed::Refused(Cause::Form),
+                Item::Device(device) => HeadingLine::Taken(Begun::OnDevice(number, device)),
+                _ => HeadingLine::Refused(Cause::Form),
             },
             Begun::OnDevice(number, device) => match item {
                 Item::Mask(byte) => match FileMask::new(byte) {
-                    Some(mask) => Headed::Taken(Begun::Masked(number, device, mask)),
-                    None => Headed::Refused(Cause::Mask),
+                    Some(mask) => HeadingLine::Taken(Begun::Masked(number, device, mask)),
+                    None => HeadingLine::Refused(Cause::Mask),
                 },
-                _ => Headed::Refused(Cause::Form),
+                _ => HeadingLine::Refused(Cause::Form),
             },
             Begun::Masked(number, device, mask) => match item {
                 Item::Start(start) => match number {
-                    VersionNumber::One => Headed::Whole(Heading {
+                    VersionNumber::One => HeadingLine::Whole(Heading {
                         version: Version::One,
                         device,
                         mask,
                         start,
                     }),
-                    VersionNumber::Two => Headed::Taken(Begun::Started(device, mask, start)),
+                    VersionNumber::Two => HeadingLine::Taken(Begun::Started(device, mask, start)),
                 },
-                _ => Headed::Refused(Cause::Form),
+                _ => HeadingLine::Refused(Cause::Form),
             },
             Begun::Started(device, mask, start) => match item {
                 Item::Limit(places) => match Limit::new(places) {
-                    Some(limit) => Headed::Whole(Heading {
+                    Some(limit) => HeadingLine::Whole(Heading {
                         version: Version::Two(limit),
                         device,
                         mask,
                         start,
                     }),
-                    None => Headed::Refused(Cause::Limit),
+                    None => HeadingLine::Refused(Cause::Limit),
                 },
-                _ => Headed::Refused(Cause::Form),
+                _ => HeadingLine::Refused(Cause::Form),
             },
         }
     }
@@ -98,9 +98,9 @@ pub(crate) fn read_heading(cursor: &mut Cursor) -> Result<Heading, DeckError>
     loop {
         let item = cursor.next_item();
         match begun.take(item) {
-            Headed::Taken(more) => begun = more,
-            Headed::Whole(heading) => return Ok(heading),
-            Headed::Refused(cause) => return Err(cursor.refused(item, cause)),
+            HeadingLine::Taken(more) => begun = more,
+            HeadingLine::Whole(heading) => return Ok(heading),
+            HeadingLine::Refused(cause) => return Err(cursor.refused(item, cause)),
         }
     }
 }

@@ -2,7 +2,7 @@
 //! come there are proved; tests hold the wording.
 
 ghost use Rattle.std.specs.Prelude.{◌≡◌, ◌≢◌, ◌++◌, ◌∷◌, [], List, Some, IfOk};
-ghost use Rattle.chan_deck.specs.Hint.{AreBefore, IsBehind, IsSpot, storage_said};
+ghost use Rattle.chan_deck.specs.Hint.{AreBefore, IsBehind, IsSpotBehindLines, storage_said};
 ghost use Rattle.chan_deck.specs.Item.{Item as Said, said_by};
 ghost use Rattle.chan_deck.specs.Refused.{is_second};
 
@@ -101,7 +101,7 @@ fn skip_lines(text: &[u8], count: u64) -> (Before, &[u8])
 
 /// The place after `count` lines.
 fn spot_behind(text: &[u8], count: u64) -> Spot<'_>
-    ensures { IsSpot text.now count result }
+    ensures { IsSpotBehindLines text.now count result }
 {
     let (before, rest) = skip_lines(text, count);
     match next_line(rest) {

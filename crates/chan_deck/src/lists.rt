@@ -24,7 +24,7 @@ pub(crate) struct Lists {
 
 /// What came of a line of the lists.
 #[derive(Clone, Copy)]
-enum Listed {
+enum ListLine {
     Taken,
     /// The line of storage has come, and says so many bytes.
     Storage(usize),
@@ -33,48 +33,48 @@ enum Listed {
 
 impl Lists {
     /// Takes what a line says. Extents come first, and areas for fetching before those for storing.
-    fn take(&mut self, item: Item) -> Result<Listed, AllocError>
+    fn take(&mut self, item: Item) -> Result<ListLine, AllocError>
         ensures { IfOk result (λ r. (h : Heading)
             → after_line (with_lists h self.old) (said_by item) ≡ after_list_line h self.new r) }
     {
         match item {
             Item::Extent(first, last) => {
                 if !self.fetch.is_empty() || !self.store.is_empty() {
-                    return Ok(Listed::Refused(Cause::Form));
+                    return Ok(ListLine::Refused(Cause::Form));
                 }
                 if last < first {
-                    return Ok(Listed::Refused(Cause::ExtentBackwards));
+                    return Ok(ListLine::Refused(Cause::ExtentBackwards));
                 }
                 if last > LAST_CYLINDER {
-                    return Ok(Listed::Refused(Cause::ExtentPastDevice));
+                    return Ok(ListLine::Refused(Cause::ExtentPastDevice));
                 }
                 self.extents.push((first, last))?;
-                Ok(Listed::Taken)
+                Ok(ListLine::Taken)
             }
             Item::Fetch(area) => {
                 if self.extents.is_empty() || !self.store.is_empty() {
-                    return Ok(Listed::Refused(Cause::Form));
+                    return Ok(ListLine::Refused(Cause::Form));
                 }
                 self.fetch.push(area)?;
-                Ok(Listed::Taken)
+                Ok(ListLine::Taken)
             }
             Item::Store(area) => {
                 if self.extents.is_empty() {
-                    return Ok(Listed::Refused(Cause::Form));
+                    return Ok(ListLine::Refused(Cause::Form));
                 }
                 self.store.push(area)?;
-                Ok(Listed::Taken)
+                Ok(ListLine::Taken)
             }
             Item::Storage(size) => {
                 if self.extents.is_empty() {
-                    return Ok(Listed::Refused(Cause::Form));
+                    return Ok(ListLine::Refused(Cause::Form));
                 }
                 if size % 8 != 0 || size > STORAGE_LIMIT {
-                    return Ok(Listed::Refused(Cause::Size));
+                    return Ok(ListLine::Refused(Cause::Size));
                 }
-                Ok(Listed::Storage(size as usize))
+                Ok(ListLine::Storage(size as usize))
             }
-            _ => Ok(Listed::Refused(Cause::Form)),
+            _ => Ok(ListLine::Refused(Cause::Form)),
         }
     }
 }
@@ -92,9 +92,9 @@ pub(crate) fn read_lists(alloc: Global, cursor: &mut Cursor) -> Result<(Lists, u
     loop {
         let item = cursor.next_item();
         match lists.take(item)? {
-            Listed::Taken => {}
-            Listed::Storage(size) => return Ok((lists, size)),
-            Listed::Refused(cause) => return Err(cursor.refused(item, cause)),
+            ListLine::Taken => {}
+            ListLine::Storage(size) => return Ok((lists, size)),
+            ListLine::Refused(cause) => return Err(cursor.refused(item, cause)),
         }
     }
 }

@@ -18,7 +18,7 @@ use Rattle.chan_walk.specs.Verdict.{IsVerdict}
 use Rattle.chan_find.specs.Programs.{start_at, IsPlainPlace, IsSecondCcw, HasSecondFrom, IsLikely, HasTwoCcws, YesIsLikely}
 use Rattle.chan_walk.proofs.Theory.Checks.{no_second_transfer}
 use Rattle.chan_walk.proofs.Theory.Faults.{clear_check, yes_clear}
-use Rattle.chan_walk.proofs.Theory.Follows.{Follows, by_transfer, by_data, by_command, by_skip, follows, succeeds}
+use Rattle.chan_walk.proofs.Theory.Follows.{FollowsBy, by_transfer, by_data, by_command, by_skip, follows, succeeds}
 
 -- data chaining goes on in the way in which it was entered
 chained_on : (k : Kind) (e : Entry) (c : Fields) → chained k ≡ Some e → chained (kind_of e c) ≡ Some e
@@ -60,7 +60,7 @@ module _ (j : Job) (v : IsVerdict j Yes) (two : HasTwoCcws j) where
   moves_on : (q : Place) → Successor j (start_at a) q → q.address ≡ a → ⊥
   moves_on q s e = go q (follows (start_at a) (ccw_of j (start_at a)) _ q s) e
     where
-      go : (q : Place) → Follows (start_at a) (ccw_of j (start_at a)) (kind_of Fresh (ccw_of j (start_at a))) q → q.address ≡ a → ⊥
+      go : (q : Place) → FollowsBy (start_at a) (ccw_of j (start_at a)) (kind_of Fresh (ccw_of j (start_at a))) q → q.address ≡ a → ⊥
       go q (by_transfer t) e = let n = no_transfer (start_at a) first refl in let same : true ≡ false = sym t ∙ n in absurd (cc)
       go q (by_data t d k) e = absurd (omega (arith, e))
       go q (by_command t d m) e = absurd (omega (arith, e))
@@ -78,12 +78,12 @@ module _ (j : Job) (v : IsVerdict j Yes) (two : HasTwoCcws j) where
   back : (p : Place) (q : Place) → Successor j (start_at a) p → q ≡ transferred_to a p.entered → (r : Place) → Successor j q r → Successor j (start_at a) r
   back p q s e r h = go p (follows (start_at a) (ccw_of j (start_at a)) _ p s) (subst (λ z. Successor j z r) e h)
     where
-      go : (p : Place) → Follows (start_at a) (ccw_of j (start_at a)) (kind_of Fresh (ccw_of j (start_at a))) p
+      go : (p : Place) → FollowsBy (start_at a) (ccw_of j (start_at a)) (kind_of Fresh (ccw_of j (start_at a))) p
           → Successor j (transferred_to a p.entered) r → Successor j (start_at a) r
       go p (by_transfer t) h = let n = no_transfer (start_at a) first refl in let same : true ≡ false = sym t ∙ n in absurd (cc)
       go p (by_data {e = e} t d k) h = on r (follows (transferred_to a e) (ccw_of j (start_at a)) _ r h)
         where
-          on : (r : Place) → Follows (transferred_to a e) (ccw_of j (start_at a)) (kind_of e (ccw_of j (start_at a))) r → Successor j (start_at a) r
+          on : (r : Place) → FollowsBy (transferred_to a e) (ccw_of j (start_at a)) (kind_of e (ccw_of j (start_at a))) r → Successor j (start_at a) r
           on r (by_transfer u) = let same : true ≡ false = sym u ∙ t in absurd (cc)
           on r (by_data {e = f} u g l) =
               let m : Some e ≡ Some f = sym (chained_on _ e (ccw_of j (start_at a)) k) ∙ l in
@@ -97,7 +97,7 @@ module _ (j : Job) (v : IsVerdict j Yes) (two : HasTwoCcws j) where
   from_transfer : (p q : Place) → IsReachable j p → Successor j (start_at a) p → is_transfer (ccw_of j p) ≡ true → Successor j p q → IsLikely j a ⊎ Near q
   from_transfer p q r s t h = go q (follows p (ccw_of j p) _ q h) h
     where
-      go : (q : Place) → Follows p (ccw_of j p) (kind_of p.entered (ccw_of j p)) q → Successor j p q → IsLikely j a ⊎ Near q
+      go : (q : Place) → FollowsBy p (ccw_of j p) (kind_of p.entered (ccw_of j p)) q → Successor j p q → IsLikely j a ⊎ Near q
       go q (by_transfer u) h = pick (cases_eq (ccw_of j p).address a)
         where
           to : Place

@@ -133,7 +133,7 @@ pub record IsPassed (j : Job) (Before : ℕ → ℕ → Type 0) (P Done : ℕ �
   pub ordered : IsOrdered Before ys
 
 -- the number a is the next one
-pub record IsNext (Before : ℕ → ℕ → Type 0) (P Done Then : ℕ → Type 0) (a : ℕ) : Type 0 where
+pub record IsNextNumber (Before : ℕ → ℕ → Type 0) (P Done Then : ℕ → Type 0) (a : ℕ) : Type 0 where
   pub parts : (b : ℕ) → P b → Then b → Done b ⊎ (b ≡ a)
   pub on : (b : ℕ) → P b → Done b → Then b
   pub here : Then a
@@ -151,7 +151,7 @@ passed_none j Before P Done ms ys undone none d = subst (λ z. IsPassed j Before
 })
 
 module _ (j : Job) (Before : ℕ → ℕ → Type 0) (P Done Then : ℕ → Type 0) (a : ℕ) (likely : (b : ℕ) → P b → IsLikely j b)
-    (x : IsNext Before P Done Then a) (ms ys : List ℕ) (u : IsPassed j Before P Done ms ys) where
+    (x : IsNextNumber Before P Done Then a) (ms ys : List ℕ) (u : IsPassed j Before P Done ms ys) where
   -- it is taken: nothing before it leads to it
   passed_more : (ns zs : List ℕ) → P a → length ms ≡ length (storage_of j) / 8 → AreClosed j ms → IsStartTaken j a ms ys ns zs → IsPassed j Before P Then ns zs
   passed_more ns zs here len closed t = subst (λ z. IsPassed j Before P Then ns z) (sym t.taken) (record {
@@ -237,7 +237,7 @@ up_turn j ms ns old new a at len closed u o =
     parts : (b : ℕ) → IsLikely j b → b < a + 8 → (b < a) ⊎ (b ≡ a)
     parts b l m = subst (λ z. (b < z) ⊎ (b ≡ z)) (sym at.1) (aligned_next at.0 b (likely_stands j b l).0 (omega (arith, at.1, m)))
 
-    next : IsNext (λ b c. b < c) (IsLikely j) (λ b. b < a) (λ b. b < a + 8) a
+    next : IsNextNumber (λ b c. b < c) (IsLikely j) (λ b. b < a) (λ b. b < a + 8) a
     next = record { parts = parts; on = λ b l m. omega (arith, m); here = omega arith; before = λ b l m. m; done = λ b l m. m }
 
 pub up_all : (j : Job) (ms roots : List ℕ) (n : ℕ) → IsUpTo j ms roots n → length (storage_of j) ≤ n → AreRoots j roots
@@ -288,7 +288,7 @@ module _ (j : Job) (rest front : List ℕ) (s : ℕ) (is : rest ≡ front ++ s �
   pub last : Has rest s
   last = subst (λ z. Has z s) (sym is) ((has_push front s s).1 (inr refl))
 
-  next : IsNext (λ b c. c < b) (IsRoot j) (IsAbove rest) (IsAbove front) s
+  next : IsNextNumber (λ b c. c < b) (IsRoot j) (IsAbove rest) (IsAbove front) s
   next = record {
     parts = λ b k above. parts b above (r.left b k);
     on = λ b k above y h. above y (to y h);

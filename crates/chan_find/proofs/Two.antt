@@ -22,6 +22,7 @@ use Rattle.chan_find.specs.Programs.{start_at, HasTwoCcws, SomeHaveTwoCcws, two_
 use Rattle.chan_walk.proofs.Theory.Chains.{argument_exists}
 use Rattle.chan_walk.proofs.Theory.Faults.{IsGood, fault_unique}
 use Rattle.chan_walk.proofs.Theory.Granting.{clear_from}
+use Rattle.chan_walk.proofs.Theory.Transport.{LeadsByCcw}
 
 -- a No Operation with some flags
 abbrev idle : ℕ → Fields
@@ -75,9 +76,6 @@ unfolding program_check_of is_aligned is_inside is_transfer is_invalid is_formed
 checks = (refl, refl)
 
 -- what comes after each of them
-abbrev ChainLeads : Place → Fields → Place → Type 0
-ChainLeads p c q = (next_of p c (kind_of p.entered c) ≡ Some q) ⊎ (skip_of p c (kind_of p.entered c) ≡ Some q)
-
 after_one : (next_of one (idle 0x60) Idle ≡ Some other) × (skip_of one (idle 0x60) Idle ≡ None)
 unfolding is_transfer chains_data chains_command
 after_one = (refl, refl)
@@ -90,17 +88,17 @@ after_other = (refl, refl)
 abbrev IsOfTwo : Place → Fields → Type 0
 IsOfTwo p c = ((p ≡ one) × (c ≡ idle 0x60)) ⊎ ((p ≡ other) × (c ≡ idle 0x20))
 
-after : (p : Place) (c : Fields) (q : Place) → IsOfTwo p c → ChainLeads p c q → q ≡ other
-after p c q (inl (e, f)) h = go (subst (λ z. ChainLeads z (idle 0x60) q) e (subst (λ z. ChainLeads p z q) f h))
+after : (p : Place) (c : Fields) (q : Place) → IsOfTwo p c → LeadsByCcw p q c → q ≡ other
+after p c q (inl (e, f)) h = go (subst (λ z. LeadsByCcw z q (idle 0x60)) e (subst (λ z. LeadsByCcw p q z) f h))
   where
-    go : ChainLeads one (idle 0x60) q → q ≡ other
+    go : LeadsByCcw one q (idle 0x60) → q ≡ other
     go (inl n) = let e : Some other ≡ Some q = sym after_one.0 ∙ subst (λ k. next_of one (idle 0x60) k ≡ Some q) (moves_none 0x60) n in cc
     go (inr n) =
         let e : ◌≡◌ {A = Option Place} None (Some q) = sym after_one.1 ∙ subst (λ k. skip_of one (idle 0x60) k ≡ Some q) (moves_none 0x60) n in
         absurd cc
-after p c q (inr (e, f)) h = go (subst (λ z. ChainLeads z (idle 0x20) q) e (subst (λ z. ChainLeads p z q) f h))
+after p c q (inr (e, f)) h = go (subst (λ z. LeadsByCcw z q (idle 0x20)) e (subst (λ z. LeadsByCcw p q z) f h))
   where
-    go : ChainLeads other (idle 0x20) q → q ≡ other
+    go : LeadsByCcw other q (idle 0x20) → q ≡ other
     go (inl n) =
         let e : ◌≡◌ {A = Option Place} None (Some q) = sym after_other.0 ∙ subst (λ k. next_of other (idle 0x20) k ≡ Some q) (moves_none 0x20) n in
         absurd cc

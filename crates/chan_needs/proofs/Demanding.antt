@@ -2,7 +2,7 @@
 use Rattle.chan_needs.proofs.Names.{[], and_from, and_parts, ap, AreBounds, AreLooksOfYes, arith, begins, begins_set_mask, begun, both_ways, byte, ccw_of, ccw_seen, class_passes, clear_good, clear_stands, false, Fields, get_or, Has, has_at, inhibits, inl, inr, is_at_least, is_fresh, IsClear, IsLook, Job, length, List, lookup, mask_is_no_transfer, MaskClass, MaskServesAt, min, None, not_from_false, Option, Place, places_of_looks, Recalibrate, refl, rules, Seek, seek_level, seek_level-le, SeekCylinder, SeekHead, Seen, Some, storage_of, strict-levels, subst, sym, true, write_level, write_level-le, yes_clear, ℕ, ◌++◌, ◌<◌, ◌↔◌, ◌∙◌, ◌∷◌, ◌≡◌, ◌≤◌, ◌⊎◌}
 use Rattle.ckd_core.specs.declared.command.MaskClass.TheVariants.{Plain, SetMask, WriteFormat, WriteHome, WriteUpdate}
 use Rattle.ckd_core.specs.Mask.{inhibits_class}
-use Rattle.ckd_core.specs.Command.{Entry as Command, class_sets_mask, sets_mask}
+use Rattle.ckd_core.specs.Command.{CommandEntry, class_sets_mask, sets_mask}
 use Rattle.chan_walk.specs.Operand.{byte_of}
 use Rattle.chan_walk.specs.Visit.{begun_at}
 use Rattle.chan_walk.proofs.Theory.Commands.{known_is_no_transfer}
@@ -18,13 +18,13 @@ use Rattle.chan_needs.proofs.Masking.{bounds_of_any, bounds_of_both, bounds_same
 pub command_at : (j : Job) (l : Seen) → IsLook j l → IsClear j l.place → l.command ≡ begun l.place (ccw_of j l.place)
 command_at j l look f = look.command ∙ ap (begun_at l.place) (ccw_seen j l look (clear_stands j l.place f))
 
-pub fresh_from : (p : Place) (c : Fields) (k : Command) → begun p c ≡ Some k → (is_fresh p.entered ≡ true) × (lookup c.command ≡ Some k)
+pub fresh_from : (p : Place) (c : Fields) (k : CommandEntry) → begun p c ≡ Some k → (is_fresh p.entered ≡ true) × (lookup c.command ≡ Some k)
 fresh_from p c k h = search rules
 
 pub none_from : (p : Place) (c : Fields) → begun p c ≡ None → is_fresh p.entered ≡ true → lookup c.command ≡ None
 none_from p c h e = search rules
 
-module _ (j : Job) (p : Place) (k : Command) (h : begun p (ccw_of j p) ≡ Some k) where
+module _ (j : Job) (p : Place) (k : CommandEntry) (h : begun p (ccw_of j p) ≡ Some k) where
   abbrev c : Fields
   c = ccw_of j p
 
@@ -86,11 +86,11 @@ module _ (j : Job) (l : Seen) (look : IsLook j l) (clear : IsClear j l.place) wh
   other_class : (k : MaskClass) → (k ≡ SetMask → ⊥) → class_sets_mask k ≡ false
   other_class k f = search rules
 
-  pub bounds_class : (k : Command) → l.command ≡ Some k → (k.class ≡ SetMask → ⊥)
+  pub bounds_class : (k : CommandEntry) → l.command ≡ Some k → (k.class ≡ SetMask → ⊥)
       → AreBounds (MaskServesAt j l.place) (writes_up_to k.class) (seeks_up_to k.class)
   bounds_class k e other = bounds_at_command j l.place k (sym (command_at j l look clear) ∙ e) (other_class k.class other)
 
-  pub bounds_byte : (k : Command) → l.command ≡ Some k → k.class ≡ SetMask
+  pub bounds_byte : (k : CommandEntry) → l.command ≡ Some k → k.class ≡ SetMask
       → AreBounds (MaskServesAt j l.place) (write_level (byte_of l.operand)) (seek_level (byte_of l.operand))
   bounds_byte k e same =
       let h = sym (command_at j l look clear) ∙ e in
@@ -145,7 +145,7 @@ sets_or_not WriteUpdate = inr refl
 demand_of : (j : Job) (p : Place) → IsClear j p → HasBounds (MaskServesAt j p)
 demand_of j p clear = go (begun p (ccw_of j p)) refl
   where
-    of_command : (k : Command) → begun p (ccw_of j p) ≡ Some k → (k.class ≡ SetMask) ⊎ (class_sets_mask k.class ≡ false) → HasBounds (MaskServesAt j p)
+    of_command : (k : CommandEntry) → begun p (ccw_of j p) ≡ Some k → (k.class ≡ SetMask) ⊎ (class_sets_mask k.class ≡ false) → HasBounds (MaskServesAt j p)
     of_command k h (inl same) =
         let b = byte (storage_of j) (ccw_of j p).address in
         let are = bounds_at_byte j p k h same clear in
@@ -158,7 +158,7 @@ demand_of j p clear = go (begun p (ccw_of j p)) refl
       are = bounds_at_command j p k h other;
     }
 
-    go : (o : Option Command) → begun p (ccw_of j p) ≡ o → HasBounds (MaskServesAt j p)
+    go : (o : Option CommandEntry) → begun p (ccw_of j p) ≡ o → HasBounds (MaskServesAt j p)
     go None e = record { writes = 3; seeks = 3; few_writes = omega arith; few_seeks = omega arith; are = bounds_of_any (MaskServesAt j p) (serves_none j p e) }
     go (Some k) e = of_command k e (sets_or_not k.class)
 

@@ -15,7 +15,7 @@ use Rattle.chan_walk.proofs.Theory.Faults.{fault_unique}
 use Rattle.chan_needs.proofs.Demanding.{ServesEach, demand_of_each, HasBounds}
 use Rattle.chan_walk.proofs.Algorithms.InOrder.{distinct_numbers, has_number}
 use Rattle.chan_walk.proofs.Algorithms.Marks.{same_number, way_small}
-use Rattle.chan_walk.proofs.Algorithms.Walking.{ChainLeads, all_found, follows_exactly, next_overflows, skip_overflows, walked_first, walked_on}
+use Rattle.chan_walk.proofs.Algorithms.Walking.{AreNextAt, all_found, follows_exactly, next_overflows, skip_overflows, walked_first, walked_on}
 use Rattle.std.proofs.lemmas.Option.{slice_get-get_or}
 use Rattle.chan_needs.proofs.Masking.{bounds_same, strictest}
 
@@ -81,7 +81,7 @@ module _ (j : Job) (clear : AreClear j) where
       n : (n : Next) × AreSuccessors j p n
       n = next_at p (w.only p (has_at ps i p (slice_get-get_or ps i (first_place j) h)))
 
-      leads : ChainLeads j ps i n.0
+      leads : AreNextAt j ps i n.0
       leads = record { from = p; there = slice_get-get_or ps i (first_place j) h; each = follows_exactly j p n.0 n.1 }
 
       on : (a : (qs : List Place) × (gs : List ℕ) × AddsPlace bound n.0.next 0 ps qs [] gs)

@@ -1,7 +1,7 @@
 -- Programs that start and leave at any time: each in flight is at the newest moment of a run among others, and all are apart.
-use Rattle.chan_needs.proofs.Names.{[], AllByRecursion, ap, AreWell, Begins, Flight, HasMask, inl, inr, IsGuarded, IsHistory, IsNextSituation, IsSameIn, IsStart, IsVerdict, Job, List, MayStart, MayStoreOver, Moment, None, Option, ProgramActs, ProgramWaits, refl, Situation, Some, Spares, Steps, storage_of, subst, sym, Waits, Yes, ℕ, ◌∙◌, ◌∷◌, ◌≡◌, ◌⊎◌}
+use Rattle.chan_needs.proofs.Names.{[], AllByRecursion, ap, AreFlightsWell, BeginsSinceAsked, Flight, HasMask, inl, inr, IsGuarded, IsHistory, IsNextSituation, IsSameIn, IsStart, IsVerdict, Job, List, MayStart, MayStoreOver, Moment, None, Option, ProgramActs, ProgramWaits, refl, Situation, Some, Spares, Steps, storage_of, subst, sym, Waits, Yes, ℕ, ◌∙◌, ◌∷◌, ◌≡◌, ◌⊎◌}
 use Rattle.chan_walk.specs.Headline.{IsSpared}
-use Rattle.chan_needs.specs.History.{IsWell, StaysWell}
+use Rattle.chan_needs.specs.History.{IsFlightWell, StaysWell}
 use Rattle.chan_walk.proofs.Theory.Lists.{all_map}
 use Rattle.chan_walk.proofs.Machine.Yes.{no_change, each_ok, step_spares, yes_is_safe_among}
 
@@ -25,7 +25,7 @@ record Sound (a : Situation) : Type 0 where
   compatible : (i k : ℕ) (f g : Flight) → a.at i ≡ Some f → a.at k ≡ Some g → MayStoreOver f.job (IsGuarded g.job) → ⊥
 
 -- a program that begins has waited since it was asked about
-begun : (j : Job) (m : Moment) → Begins j m → (before : List Moment) × IsSpared j (m ∷ before)
+begun : (j : Job) (m : Moment) → BeginsSinceAsked j m → (before : List Moment) × IsSpared j (m ∷ before)
 begun j m b = (asked ∷ [], (is_start, inr (waited, b.storage)))
   where
     asked : Moment
@@ -38,26 +38,26 @@ begun j m b = (asked ∷ [], (is_start, inr (waited, b.storage)))
     waited = record { arm = refl; mask = refl; stage = refl; events = b.events }
 
 -- what a moment of a run may be followed by
-abbrev Goes : Job → Moment → Moment → Type 0
-Goes j m n = Steps m n ⊎ (Waits m n × IsSameIn (IsGuarded j) m.storage n.storage)
+abbrev MomentGoesOn : Job → Moment → Moment → Type 0
+MomentGoesOn j m n = Steps m n ⊎ (Waits m n × IsSameIn (IsGuarded j) m.storage n.storage)
 
 -- g was in flight before, as f
 record Was (a : Situation) (i : ℕ) (g : Flight) : Type 0 where
   f : Flight
   there : a.at i ≡ Some f
   same : g.job ≡ f.job
-  goes : Goes f.job f.moment g.moment
+  goes : MomentGoesOn f.job f.moment g.moment
 
 -- each in flight is the one that starts, or was in flight before
-record Next (a b : Situation) : Type 0 where
+record OneMayStart (a b : Situation) : Type 0 where
   new : Option Flight
   may : (f : Flight) → new ≡ Some f → MayStart a f
   each : (i : ℕ) (g : Flight) → b.at i ≡ Some g → (new ≡ Some g) ⊎ Was a i g
 
-goes_kept : (j k : Job) (m n : Moment) → k ≡ j → Goes j m n → Kept j m → Kept k n
+goes_kept : (j k : Job) (m n : Moment) → k ≡ j → MomentGoesOn j m n → Kept j m → Kept k n
 goes_kept j k m n e w h = subst (λ z. Kept z n) (sym e) (record { mask = h.mask; verdict = h.verdict; before = m ∷ h.before; spared = (h.spared, w) })
 
-next_sound : (a b : Situation) → Next a b → Sound a → Sound b
+next_sound : (a b : Situation) → OneMayStart a b → Sound a → Sound b
 next_sound a b next sound = record {
   kept = λ i g e. kept i g (next.each i g e);
   compatible = λ i k f g d e. compatible i k f g (next.each i f d) (next.each k g e);
@@ -105,7 +105,7 @@ module _ (a b : Situation) (sound : Sound a) where
   stays e P = subst (IsSameIn P a.storage) (sym e) (record { same_length = refl; same = λ z u. refl })
 
   -- one acts, at i
-  acts : (i : ℕ) (x y : Option Flight) → a.at i ≡ x → b.at i ≡ y → ProgramActs a b x y → ((k : ℕ) → (k ≡ i) ⊎ ProgramWaits (a.at k) (b.at k)) → Next a b
+  acts : (i : ℕ) (x y : Option Flight) → a.at i ≡ x → b.at i ≡ y → ProgramActs a b x y → ((k : ℕ) → (k ≡ i) ⊎ ProgramWaits (a.at k) (b.at k)) → OneMayStart a b
   acts i None None d e w r = absurd w
   acts i None (Some f) d e w r = record { new = Some f; may = λ g z. let t : f ≡ g = cc in subst (MayStart a) t w.0; each = λ k g z. each k g z (r k) }
     where
@@ -132,7 +132,7 @@ module _ (a b : Situation) (sound : Sound a) where
           subst (Was a k) t (record { f = f; there = ap a.at q ∙ d; same = w.0; goes = inl w.1 })
       each k h z (inr q) = waited k h (a.at k) refl z (subst (ProgramWaits (a.at k)) z q) (spared k)
 
-  next : IsNextSituation a b → Next a b
+  next : IsNextSituation a b → OneMayStart a b
   next (inl w) = acts w.0 (a.at w.0) (b.at w.0) refl refl w.1 w.2
   next (inr w) = record { new = None; may = λ f z. absurd cc; each = λ k g z. inr (waits k g z (subst (ProgramWaits (a.at k)) z (w k).0) (w k).1) }
     where
@@ -151,9 +151,9 @@ all_sound (b ∷ a ∷ before) h =
     (next_sound a b (next a b k.0 h.1) k.0, k)
 
 pub stays_well : StaysWell
-stays_well history h = all_map Sound AreWell (λ a s i f e. well f (s.kept i f e)) history (all_sound history h)
+stays_well history h = all_map Sound AreFlightsWell (λ a s i f e. well f (s.kept i f e)) history (all_sound history h)
   where
-    well : (f : Flight) → Kept f.job f.moment → IsWell f
+    well : (f : Flight) → Kept f.job f.moment → IsFlightWell f
     well f k =
         let ms = f.moment ∷ k.before in
         let o = (each_ok f.job k.verdict ms k.spared).0.kept in

@@ -112,11 +112,11 @@ module _ (j : Job) (n : Listed) (h : AreNeeds j n) where
 
   module _ (k : Job) where
     -- the areas lent have all bytes of a listed one
-    abbrev pub Lent : List Area → List Area → Type 0
-    Lent areas lent = (b : ℕ) → lies_in areas b ≡ true → lies_in lent b ≡ true
+    abbrev pub LieWithin : List Area → List Area → Type 0
+    LieWithin areas lent = (b : ℕ) → lies_in areas b ≡ true → lies_in lent b ≡ true
 
     pub grants_from : is_at_least n.mask k.mask ≡ true → ((c : ℕ) → has_cylinder n.extents c ≡ true → has_cylinder (extents_of k) c ≡ true)
-        → Lent n.fetch (fetch_of k) → Lent n.store (store_of k) → Grants j k
+        → LieWithin n.fetch (fetch_of k) → LieWithin n.store (store_of k) → Grants j k
     grants_from mask extents fetch store = record {
       mask = (needed_mask_is_enough j n.mask k.mask h.mask).1 mask;
       extents = λ c m. extents c ((h.extents.cylinders c).1 m);

@@ -71,12 +71,12 @@ module _ (j k : Job) (keeps : KeepsProgram j k) (v : IsVerdict (open_job j) Yes)
 -- ---- a program in flight
 
 module _ (p : Remembered) (k : Job) (h : IsInFlight p k) where
-  pub listed_in_flight : HasStoreAndKeep k (listed_in p.needs)
-  listed_in_flight = lists_stay h.asked k h.program h.needs.verdict (listed_in p.needs) (record { store = h.needs.store; keep = h.needs.keep })
+  pub needs_in_flight : HasStoreAndKeep k (listed_in p.needs)
+  needs_in_flight = lists_stay h.asked k h.program h.needs.verdict (listed_in p.needs) (record { store = h.needs.store; keep = h.needs.keep })
 
   -- what it guards is listed
   pub guarded_listed : (b : ℕ) → IsGuarded k b → lies_in p.needs.keep.now b ≡ true
-  guarded_listed b g = (listed_in_flight.keep.bytes b).1 (((yes_is_open k h.proper h.verdict).1 b).0 g)
+  guarded_listed b g = (needs_in_flight.keep.bytes b).1 (((yes_is_open k h.proper h.verdict).1 b).0 g)
 
 -- what holds of all holds of number n
 at_number : (P : Remembered → Type 0) (fs : List Remembered) (n : ℕ) (f : Remembered) → All P fs → IsInFlightAt fs n f → P f
@@ -147,7 +147,7 @@ module _ (j : Job) (p : Remembered) (fs : List Remembered) (proper : IsProper j)
       let b : IsCompatibleWith p f = at_number (IsCompatibleWith p) fs n f fit.compatible number in (
         g.job,
         record { program = record { storage = refl; start = refl; device = refl }; proper = flight.proper; verdict = flight.verdict },
-        are_compatible j g.job (listed_in p.needs) (listed_in f.needs) (listed_in_flight p j in_flight) (listed_in_flight f g.job flight)
+        are_compatible j g.job (listed_in p.needs) (listed_in f.needs) (needs_in_flight p j in_flight) (needs_in_flight f g.job flight)
             b.one_spares b.other_spares,
       )
 

@@ -2,7 +2,7 @@
 use Rattle.chan_needs.proofs.Names.{[], and_from, and_parts, ap, Area, AreExactly, AreReached, argument_unique, arith, BeginAbove, begins_recalibrate, begins_seek, begun, both_ways, byte_area, ccw_of, ccw_seen, class_passes, clear_stands, cylinder_of, end_of, Extent, false, Fields, get_or, Has, has_cylinder, HasArgument, HoldBytes, home, inl, inr, is_fresh, IsByteOf, IsClear, IsLook, IsMerged, IsSought, Job, le-leb, leb-true, length, lies_in, lies_in-cases, lies_in-first, lies_in-nil, lies_in-rest, List, lookup, map, map-append, MaskClass, nat_le, None, Option, option_map, or_cases, or_left, or_right, pair, Place, Recalibrate, refl, rules, run_of, Seek, SeekCylinder, SeekHead, SeeksCylinder, Seen, Some, storage_of, subst, sym, take, true, ℕ, ◌&&◌, ◌++◌, ◌+◌, ◌-◌, ◌<◌, ◌↔◌, ◌∙◌, ◌∷◌, ◌≡◌, ◌⊎◌}
 use Rattle.std.proofs.lemmas.Grind.{common_steps}
 use Rattle.std.proofs.Math.Seq.{take-suc}
-use Rattle.ckd_core.specs.Command.{Entry as Command, class_is_seek, class_recalibrates, is_seek, recalibrates}
+use Rattle.ckd_core.specs.Command.{CommandEntry, class_is_seek, class_recalibrates, is_seek, recalibrates}
 use Rattle.chan_walk.specs.Guard.{AddsBytes}
 use Rattle.chan_needs.specs.Listed.{AreRising, AreRunsOf, RunsAbove}
 use Rattle.chan_needs.proofs.Demanding.{command_at, fresh_from, none_from}
@@ -40,7 +40,7 @@ module _ (j : Job) (l : Seen) (look : IsLook j l) (clear : IsClear j l.place) wh
       no_seek j p (avoids _ _ (λ f. ap (class_passes class_is_seek) (none_from p c h f)))
       (avoids _ _ (λ f. ap (class_passes class_recalibrates) (none_from p c h f)))
 
-  module _ (k : Command) (e : l.command ≡ Some k) where
+  module _ (k : CommandEntry) (e : l.command ≡ Some k) where
     abbrev found : (is_fresh p.entered ≡ true) × (lookup c.command ≡ Some k)
     found = fresh_from p c k (sym (command_at j l look clear) ∙ e)
 

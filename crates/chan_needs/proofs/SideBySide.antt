@@ -1,10 +1,10 @@
 -- Two programs side by side are a history: the one starts, then the other, and then they run.
-use Rattle.chan_needs.proofs.Names.{[], AllByRecursion, ap, AreJobsCompatible, AreWell, Begins, byte, Flight, HasMask, inl, inr, IsGuarded, IsHistory, IsNextSituation, IsStart, Job, length, List, map, MayStart, MayStoreOver, Moment, None, Option, ProgramWaits, refl, Situation, Some, Steps, subst, suc, Waits, zero, ℕ, ◌++◌, ◌∷◌, ◌≡◌, ◌⊎◌}
+use Rattle.chan_needs.proofs.Names.{[], AllByRecursion, ap, AreJobsCompatible, AreFlightsWell, BeginsSinceAsked, byte, Flight, HasMask, inl, inr, IsGuarded, IsHistory, IsNextSituation, IsStart, Job, length, List, map, MayStart, MayStoreOver, Moment, None, Option, ProgramWaits, refl, Situation, Some, Steps, subst, suc, Waits, zero, ℕ, ◌++◌, ◌∷◌, ◌≡◌, ◌⊎◌}
 use Rattle.chan_needs.specs.SideBySide.{TwoMoments, moments_of_one, moments_of_other, AreRunning, SafeSideBySide}
 use Rattle.chan_walk.specs.Headline.{IsSafeMoment}
 use Rattle.chan_needs.proofs.History.{stays_well}
 
-begins : (j : Job) (m : Moment) → IsStart j m → Begins j m
+begins : (j : Job) (m : Moment) → IsStart j m → BeginsSinceAsked j m
 begins j m s = record {
   storage = record { same_length = ap length s.storage; same = λ b _. ap (λ z. byte z b) s.storage };
   arm = s.arm;
@@ -112,7 +112,7 @@ module _ (j k : Job) (h : HasMask j) (i : HasMask k) (compatible : AreJobsCompat
       nothing (suc (suc n)) = refl
   is_history (n ∷ m ∷ ms) r = let k = is_history (m ∷ ms) r.0 in (k.0, (k.1, next m n r.1))
 
-  safe : (run : List TwoMoments) (before : List Situation) → AllByRecursion AreWell (map both run ++ before)
+  safe : (run : List TwoMoments) (before : List Situation) → AllByRecursion AreFlightsWell (map both run ++ before)
       → AllByRecursion (IsSafeMoment j) (moments_of_one run) × AllByRecursion (IsSafeMoment k) (moments_of_other run)
   safe [] before w = (tt, tt)
   safe (m ∷ ms) before w =

@@ -1,6 +1,6 @@
 -- A supervisor that keeps to the answers of its calls makes a history.
 use Rattle.chan_needs.proofs.Names.{[], ap, AreInFlight, Flight, inl, inr, IsAllowed, IsHistory, IsInFlight, IsNextSituation, IsSome, IsSupervised, List, map, MayStart, None, Option, ProgramActs, ProgramGoesOnAt, ProgramStartsAt, ProgramWaits, ProgramWaitsAt, refl, Remembered, Situation, Some, Spares, subst, Supervision, SupervisionGoesOn, sym, ℕ, ◌∙◌, ◌∷◌, ◌≡◌, ◌⊎◌}
-use Rattle.chan_needs.specs.Supervised.{IsWriting, Lists, SupervisedStaysWell}
+use Rattle.chan_needs.specs.Supervised.{IsWriting, ListsRemembered, SupervisedStaysWell}
 use Rattle.chan_needs.proofs.History.{stays_well}
 use Rattle.chan_needs.proofs.Remembering.{spared_by, starts_well}
 use Rattle.chan_needs.proofs.Beginning.{others}
@@ -16,7 +16,7 @@ IsNoted v i g = (p : Remembered) × (v.programs i ≡ Some p) × IsInFlight p g.
 abbrev IsTrueAt : Supervision → Type 0
 IsTrueAt v = (i : ℕ) (g : Flight) → v.situation.at i ≡ Some g → IsNoted v i g
 
-listed_in_flight : (v : Supervision) (fs : List Remembered) → IsTrueAt v → Lists v.programs fs → AreInFlight v.situation fs
+listed_in_flight : (v : Supervision) (fs : List Remembered) → IsTrueAt v → ListsRemembered v.programs fs → AreInFlight v.situation fs
 listed_in_flight v fs h lists i g e = let t = h i g e in let n = lists i t.0 t.1 in (n.0, t.0, n.1, t.2)
 
 -- ---- one moment on

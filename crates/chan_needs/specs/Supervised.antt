@@ -1,6 +1,5 @@
--- The supervisor's law over the answers of its calls: a supervisor that starts programs only after
--- a yes of `may_start`, and lets others write only if `may_write` names no program, has all
--- programs in flight well.
+-- The supervisor's law: if programs start only after a yes of `may_start`, and others write only if
+-- `may_write` names no program, then all programs in flight are well.
 use Rattle.std.specs.Prelude.{◌≡◌, ℕ, List, [], ◌∷◌, length, map, Option, Some, None, IsSome}
 use Rattle.std.specs.Prelude.{◌⊎◌, false, true}
 use Rattle.std.specs.List.{AllByRecursion}
@@ -13,7 +12,7 @@ use Rattle.ccw_core.specs.Ccw.{byte}
 use Rattle.chan_areas.specs.Merged.{IsByteOf}
 use Rattle.chan_walk.specs.Alarm.{IsProper}
 use Rattle.chan_walk.specs.Argument.{Has}
-use Rattle.chan_needs.specs.History.{ProgramActs, AreWell, Flight, ProgramWaits, Situation}
+use Rattle.chan_needs.specs.History.{ProgramActs, AreFlightsWell, Flight, ProgramWaits, Situation}
 use Rattle.chan_needs.specs.Remembered.{HoldsKept, IsKeeperOf, IsInFlightAt, KeepsNone}
 use Rattle.chan_needs.specs.Remembered.{IsRemembered, IsWritten, device_number}
 use Rattle.chan_needs.specs.Listed.{AreNeeds, listed_in}
@@ -26,8 +25,8 @@ pub record Supervision : Type 0 where
   pub programs : ℕ → Option Remembered
 
 -- the list has all that is remembered
-abbrev pub Lists : (ℕ → Option Remembered) → List Remembered → Type 0
-Lists programs fs = (i : ℕ) (p : Remembered) → programs i ≡ Some p → (n : ℕ) × IsInFlightAt fs n p
+abbrev pub ListsRemembered : (ℕ → Option Remembered) → List Remembered → Type 0
+ListsRemembered ps fs = (i : ℕ) (p : Remembered) → ps i ≡ Some p → (n : ℕ) × IsInFlightAt fs n p
 
 -- a program that was asked about is about to start under number i, where nothing is in flight, and
 -- `may_start` answers yes
@@ -40,7 +39,7 @@ pub record IsAllowed (v : Supervision) (i : ℕ) : Type 0 where
   pub start : IsStart flight.job flight.moment
   pub storage : flight.moment.storage ≡ v.situation.storage
   pub in_flight : List Remembered
-  pub lists : Lists v.programs in_flight
+  pub lists : ListsRemembered v.programs in_flight
   pub answer : IsAnswerOf flight.job program in_flight Yes
   pub free : v.situation.at i ≡ None
 
@@ -67,7 +66,7 @@ ProgramWaitsAt v w k = ProgramWaits (v.situation.at k) (w.situation.at k)
 pub record MayWrite (v : Supervision) (t : List ℕ) : Type 0 where
   pub area : Area
   pub in_flight : List Remembered
-  pub lists : Lists v.programs in_flight
+  pub lists : ListsRemembered v.programs in_flight
   pub answer : IsKeeperOf in_flight area None
   pub written : IsWritten area v.situation.storage t
 
@@ -92,7 +91,7 @@ IsSupervised (w ∷ v ∷ before) = IsSupervised (v ∷ before) × SupervisionGo
 abbrev pub SupervisedStaysWell : Type 0
 SupervisedStaysWell =
     (run : List Supervision) → IsSupervised run
-    → AllByRecursion AreWell (map (λ (v : Supervision). v.situation) run)
+    → AllByRecursion AreFlightsWell (map (λ (v : Supervision). v.situation) run)
 
 -- what the calls allow may happen, and so may each step and each end
 pub record SupervisedGoesOn : Type 0 where
@@ -125,19 +124,20 @@ pub record CanBeSupervised : Type 0 where
       → device_number j.device ≡ p.device → HoldsKept j p → IsRemembered j p
   pub lists :
       (programs : ℕ → Option Remembered) (fs : List Remembered)
-      → ((i : ℕ) (p : Remembered) → programs i ≡ Some p → Has fs p) → Lists programs fs
+      → ((i : ℕ) (p : Remembered) → programs i ≡ Some p → Has fs p) → ListsRemembered programs fs
   pub allowed :
       (v : Supervision) (i : ℕ) (j : Job) (p : Remembered) (f : Flight) (fs : List Remembered)
       → IsRemembered j p → IsProper f.job → IsStart f.job f.moment
-      → f.moment.storage ≡ v.situation.storage → Lists v.programs fs
+      → f.moment.storage ≡ v.situation.storage → ListsRemembered v.programs fs
       → IsAnswerOf f.job p fs Yes → v.situation.at i ≡ None
       → (s : IsAllowed v i) × (s.flight ≡ f) × (s.program ≡ p)
   pub written :
       (area : Area) (s t : List ℕ) → length t ≡ length s
       → ((b : ℕ) → (IsByteOf area b → ⊥) → byte t b ≡ byte s b) → IsWritten area s t
   pub may_write :
-      (v : Supervision) (t : List ℕ) (area : Area) (fs : List Remembered) → Lists v.programs fs
-      → IsKeeperOf fs area None → IsWritten area v.situation.storage t → MayWrite v t
+      (v : Supervision) (t : List ℕ) (area : Area) (fs : List Remembered)
+      → ListsRemembered v.programs fs → IsKeeperOf fs area None
+      → IsWritten area v.situation.storage t → MayWrite v t
 
 -- ---- a write that lasts, such as a tape's input into a buffer
 
@@ -164,7 +164,7 @@ pub record LastingWrites : Type 0 where
       → IsSparedBy area v → SupervisionGoesOn v w → IsListedAt f v w → IsSparedBy area w
   pub may_write :
       (f : Remembered) (area : Area) (v : Supervision) (fs : List Remembered) (t : List ℕ)
-      → IsLastingWrite area f → IsSparedBy area v → Lists v.programs fs
+      → IsLastingWrite area f → IsSparedBy area v → ListsRemembered v.programs fs
       → ((g : Remembered) → Has fs g
       → (g ≡ f) ⊎ ((i : ℕ) × IsSome (v.situation.at i) × (v.programs i ≡ Some g)))
       → IsWritten area v.situation.storage t → MayWrite v t

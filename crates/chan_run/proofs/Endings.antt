@@ -3,10 +3,10 @@ use Rattle.std.proofs.Common.{◌≡◌, ◌∙◌, ◌↔◌, Bool, Err, IsErr,
 use Rattle.chan_walk.specs.declared.job.Job.{Job}
 use Rattle.chan_args.specs.declared.action.Action.{Action}
 use Rattle.chan_args.specs.declared.action.Action.TheVariants as actions
-use Rattle.chan_run.specs.Output.{Judges}
+use Rattle.chan_run.specs.Output.{ActionJudges}
 
 -- an action for which no open job is asked judges the job itself
-pub judges_itself : (a : Action) (j : Job) → ((deck : Bool) → a ≡ actions.Needs deck → ⊥) → Judges a j j
+pub judges_itself : (a : Action) (j : Job) → ((deck : Bool) → a ≡ actions.Needs deck → ⊥) → ActionJudges a j j
 judges_itself (actions.Needs deck) j other = absurd (other deck refl)
 judges_itself a j other = refl
 

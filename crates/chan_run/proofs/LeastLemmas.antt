@@ -26,7 +26,7 @@ use Rattle.chan_deck.specs.Image.{Image, limit_of}
 use Rattle.chan_deck.proofs.PartLemmas.{storage_fits}
 use Rattle.chan_deck.specs.Needs.{halves, in_six_digits, six_digit_parts}
 use Rattle.chan_args.specs.declared.image_words.RequestedJob.TheVariants as jobs
-use Rattle.chan_run.specs.Image.{IsRequestedDeck, IsOfOpenJob, IsProgramIn, least_deck}
+use Rattle.chan_run.specs.Image.{IsRequestedDeck, HoldsOfOpenJob, IsProgramIn, least_deck}
 use Rattle.chan_run.specs.Output.{IsDeckJob, deck_of_job, extents_for, granting_just}
 use Rattle.chan_run.specs.declared.image_options.ImageOptions.{ImageOptions}
 use Rattle.ccw_core.specs.declared.ccw.TheConstants.{STORAGE_LIMIT}
@@ -221,6 +221,6 @@ granting_is_yes j n needs short same k of =
 
 -- the open job of a program shows something
 pub of_open_job : (o : ImageOptions) (image : List ℕ) (Holds : Job → Type 0) (j k : Job) → IsProgramIn o image j
-    → IsOpenJob j k → Holds k → IsOfOpenJob o image Holds
+    → IsOpenJob j k → Holds k → HoldsOfOpenJob o image Holds
 of_open_job o image Holds j k there is holds =
     record { job = j; of_program = there; opened = k; is_open = is; holds = holds }

@@ -21,10 +21,10 @@ use Rattle.chan_why.specs.declared.notes.Notes.{Notes}
 use Rattle.chan_run.specs.declared.advice.TheConstants as texts
 
 -- the hint on a refused line comes whether or not the input has a name
-abbrev pub is_hinted : Action → Bool
-is_hinted (actions.Why told) = true
-is_hinted actions.Graph = true
-is_hinted _ = false
+abbrev pub always_hints : Action → Bool
+always_hints (actions.Why told) = true
+always_hints actions.Graph = true
+always_hints _ = false
 
 -- there is advice on the verdict
 abbrev pub is_advised : Action → Bool

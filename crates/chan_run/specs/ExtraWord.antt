@@ -12,15 +12,15 @@ takes_one command =
     else if bytes_eq command (codes "show") then Some texts.ONE_OF_SHOW.now else None
 
 -- a hexadecimal number stands where the FILE of `deck` does
-abbrev pub IsOfDeck : List ℕ → Type 0
-IsOfDeck line =
+abbrev pub IsNumberForFile : List ℕ → Type 0
+IsNumberForFile line =
     (word : List ℕ) × (number_in 16 word ≢ None)
     × (line ≡ texts.ONE_OF_DECK.now ++ (word ++ (texts.GIVE_START.now ++ word)))
 
 -- the first line for a command
 abbrev pub IsFirstLine : List ℕ → List ℕ → Type 0
 IsFirstLine command line =
-    ((command ≡ codes "deck") × IsOfDeck line) ⊎ (takes_one command ≡ Some line)
+    ((command ≡ codes "deck") × IsNumberForFile line) ⊎ (takes_one command ≡ Some line)
 
 -- this is said in place of a text: only its first line is another
 abbrev pub IsRephrased : List ℕ → List ℕ → Type 0

@@ -29,7 +29,7 @@ IsVerdictOrNone k None = HasMoreThan k k.limit
 
 -- the line of a job's program says the verdict on its open job, and what the program looks like, of
 -- which tests hold the text
-pub record IsLineOn (j : Job) (line : List ℕ) : Type 0 where
+pub record IsProgramLine (j : Job) (line : List ℕ) : Type 0 where
   pub opened : Job
   pub is_open : IsOpenJob j opened
   pub verdict : Option Verdict
@@ -39,7 +39,7 @@ pub record IsLineOn (j : Job) (line : List ℕ) : Type 0 where
 
 -- the line of the program that begins at an address in an image
 abbrev pub IsLineAt : ImageOptions → List ℕ → ℕ → List ℕ → Type 0
-IsLineAt o image a line = (j : Job) × IsProgramAt o image a j × IsLineOn j line
+IsLineAt o image a line = (j : Job) × IsProgramAt o image a j × IsProgramLine j line
 
 -- the text has such a line for each of these, in order
 abbrev pub AreLines : {X : Type 0} → (X → List ℕ → Type 0) → List X → List ℕ → Type 0

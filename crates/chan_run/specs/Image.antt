@@ -51,7 +51,7 @@ abbrev pub IsProgramIn : ImageOptions → List ℕ → Job → Type 0
 IsProgramIn o image j = IsProgramAt o image o.start j
 
 -- this holds of that program's open job
-pub record IsOfOpenJob (o : ImageOptions) (image : List ℕ) (Holds : Job → Type 0) : Type 0 where
+pub record HoldsOfOpenJob (o : ImageOptions) (image : List ℕ) (Holds : Job → Type 0) : Type 0 where
   pub job : Job
   pub of_program : IsProgramIn o image job
   pub opened : Job
@@ -91,8 +91,8 @@ IsRequestedDeck jobs.Open o image d = d ≡ open_deck o image
 
 -- from the image's address on there is room for so many bytes: to the size of storage that was
 -- asked for, or the largest
-abbrev pub IsRoom : ImageOptions → ℕ → Type 0
-IsRoom o room = o.at + room ≡ unwrap_or o.size STORAGE_LIMIT
+abbrev pub IsImageRoom : ImageOptions → ℕ → Type 0
+IsImageRoom o room = o.at + room ≡ unwrap_or o.size STORAGE_LIMIT
 
 -- an image with zeros behind it, where a size of storage was asked for that leaves so much room
 abbrev pub filled : Option ℕ → ℕ → List ℕ → List ℕ
@@ -103,14 +103,14 @@ filled (Some size) room image = image ++ replicate (room - length image) 0
 pub record IsImage (o : ImageOptions) (room : ℕ) (old new : Option (List ℕ)) (image : List ℕ)
     : Type 0 where
   pub gave : GaveAll old new image
-  pub is_room : IsRoom o room
+  pub is_room : IsImageRoom o room
   pub short : length image ≤ room
 
 -- why nothing is needed of a job: none will do, too many places are reachable, or memory ran out
 abbrev pub HasNoNeeds : ImageOptions → List ℕ → Outcome → Type 0
-HasNoNeeds o image (NoJob a r) = IsOfOpenJob o image (λ k. IsAnswer k (No a r))
+HasNoNeeds o image (NoJob a r) = HoldsOfOpenJob o image (λ k. IsAnswer k (No a r))
 HasNoNeeds o image (Failed failures.TooManyPlaces) =
-    IsOfOpenJob o image (λ k. HasMoreThan k k.limit)
+    HoldsOfOpenJob o image (λ k. HasMoreThan k k.limit)
 HasNoNeeds o image (Failed failures.OutOfMemory) = Unit {0}
 HasNoNeeds o image _ = ⊥
 
@@ -126,11 +126,11 @@ IsNoDeck o image end = (o.job ≡ jobs.Least) × HasNoNeeds o image end
 -- why no image was read; nothing was written then
 abbrev pub IsNoImage : ImageOptions → Option (List ℕ) → Option (List ℕ) → Failure → Type 0
 IsNoImage o old new failures.ImageTooLong =
-    (o.size ≡ None) × (room : ℕ) × IsRoom o room × GaveTooMuch room old new
+    (o.size ≡ None) × (room : ℕ) × IsImageRoom o room × GaveTooMuch room old new
 IsNoImage o old new failures.ImagePastStorage =
     (size : ℕ) × (o.size ≡ Some size)
-    × ((size < o.at) ⊎ ((room : ℕ) × IsRoom o room × GaveTooMuch room old new))
-IsNoImage o old new failures.ReadFailed = (room : ℕ) × IsRoom o room × GaveOut room old new
+    × ((size < o.at) ⊎ ((room : ℕ) × IsImageRoom o room × GaveTooMuch room old new))
+IsNoImage o old new failures.ReadFailed = (room : ℕ) × IsImageRoom o room × GaveOut room old new
 IsNoImage o old new failures.OutOfMemory = Unit {0}
 IsNoImage o old new _ = ⊥
 

@@ -26,11 +26,11 @@ IsNoWord text = IsInNoTable text × (¬ IsSpelled text)
 
 -- what is said of a text that is no word: that it is unknown; or that memory ran out, of one that
 -- is in no table
-abbrev pub IsUnknown : List ℕ → Outcome → Type 0
-IsUnknown text (Unknown word) = IsNoWord text
-IsUnknown text (Failed failures.NoSuchWord) = IsNoWord text
-IsUnknown text (Failed failures.OutOfMemory) = IsInNoTable text
-IsUnknown text _ = ⊥
+abbrev pub IsUnknownWord : List ℕ → Outcome → Type 0
+IsUnknownWord text (Unknown word) = IsNoWord text
+IsUnknownWord text (Failed failures.NoSuchWord) = IsNoWord text
+IsUnknownWord text (Failed failures.OutOfMemory) = IsInNoTable text
+IsUnknownWord text _ = ⊥
 
 -- the line of a term: its word, and what it is in a few words
 abbrev pub IsWordLine : Term → List ℕ → Type 0
@@ -71,4 +71,4 @@ IsWordAnswer text old new Done =
     (meaning : List ℕ) × IsMeaning text meaning × Appends old new meaning
 IsWordAnswer text old new (Failed failures.WriteFailed) =
     (meaning : List ℕ) × IsMeaning text meaning × AppendsPrefix old new meaning
-IsWordAnswer text old new end = IsUnknown text end
+IsWordAnswer text old new end = IsUnknownWord text end

@@ -59,8 +59,8 @@ IsAroundTip text front rest =
     × (text ≡ front ++ (texts.TIP.now ++ (tip ++ (texts.EMPTY_LINE.now ++ rest))))
 
 -- it is said whole, or without its tip
-abbrev pub IsTipless : List ℕ → List ℕ → Type 0
-IsTipless text said =
+abbrev pub MayLackTip : List ℕ → List ℕ → Type 0
+MayLackTip text said =
     (said ≡ text)
     ⊎ (((front : List ℕ) × (rest : List ℕ) × IsAroundTip text front rest
     × (said ≡ front ++ (texts.EMPTY_LINE.now ++ rest)))
@@ -69,4 +69,4 @@ IsTipless text said =
 
 -- it is said so, or with another first line
 abbrev pub IsUsageText : List ℕ → List ℕ → Type 0
-IsUsageText text said = IsTipless text said ⊎ IsRephrased text said
+IsUsageText text said = MayLackTip text said ⊎ IsRephrased text said

@@ -63,10 +63,10 @@ status_of (Unknown word) = (texts_of_failure failures.NoSuchWord).status
 status_of (Failed failure) = (texts_of_failure failure).status
 
 -- all was done that was asked for, so that the output is flushed
-abbrev pub IsDone : Outcome → Type 0
-IsDone Done = Unit {0}
-IsDone Denied = Unit {0}
-IsDone _ = ⊥
+abbrev pub IsCarriedOut : Outcome → Type 0
+IsCarriedOut Done = Unit {0}
+IsCarriedOut Denied = Unit {0}
+IsCarriedOut _ = ⊥
 
 -- the line of an outcome over an input that may have a name; an outcome that says nothing has none.
 -- A line on the input names it; any other is on the program or on what it writes

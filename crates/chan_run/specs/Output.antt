@@ -45,7 +45,7 @@ pub record IsDeckJob (d : Image) (j : Job) : Type 0 where
   pub store : store_of j ≡ d.store
 
 -- the text spells a deck, and this holds of the deck's job
-pub record IsOfJob (t : List ℕ) (Holds : Job → Type 0) : Type 0 where
+pub record HoldsOfDeckJob (t : List ℕ) (Holds : Job → Type 0) : Type 0 where
   pub deck : Image
   pub spelled : Spells t deck
   pub job : Job
@@ -151,6 +151,6 @@ IsUnwritten old new = Appends old new []
 
 -- the job that an action judges: for what is needed the open job of the program, else the job
 -- itself
-abbrev pub Judges : Action → Job → Job → Type 0
-Judges (actions.Needs deck) j k = IsOpenJob j k
-Judges a j k = k ≡ j
+abbrev pub ActionJudges : Action → Job → Job → Type 0
+ActionJudges (actions.Needs deck) j k = IsOpenJob j k
+ActionJudges a j k = k ≡ j

@@ -14,11 +14,11 @@ use Rattle.chan_walk.specs.Places.{HasMoreThan}
 use Rattle.chan_walk.specs.declared.job.Job.{Job}
 use Rattle.chan_walk.specs.declared.verdict.Verdict.{Verdict}
 use Rattle.chan_walk.specs.declared.verdict.Verdict.TheVariants.{Yes, No}
-use Rattle.chan_run.specs.Advice.{IsVerdictAdvice, is_advised, is_hinted}
+use Rattle.chan_run.specs.Advice.{IsVerdictAdvice, is_advised, always_hints}
 use Rattle.chan_run.specs.Input.{IsInput, IsReadFault}
 use Rattle.chan_run.specs.Name.{front_of, fronted, name_of}
-use Rattle.chan_run.specs.Outcome.{IsDone, line_over}
-use Rattle.chan_run.specs.Output.{IsActionOutput, IsOfJob, Judges}
+use Rattle.chan_run.specs.Outcome.{IsCarriedOut, line_over}
+use Rattle.chan_run.specs.Output.{IsActionOutput, HoldsOfDeckJob, ActionJudges}
 use Rattle.chan_run.specs.Texts.{WriterGot}
 use Rattle.chan_run.specs.declared.failure.Failure.{Failure}
 use Rattle.chan_run.specs.declared.failure.Failure.TheVariants as failures
@@ -86,17 +86,17 @@ pub record IsRefusalResponse (n : Naming) (a : Action) (t : List ℕ) (r : Respo
   pub outcome : r.outcome ≡ Refused line cause
   pub output : r.output.items ≡ []
   pub advice :
-      IsWantedAdvice n (is_some n.name || is_hinted a) (λ hint. hint ≢ []) (advice_in r.advice)
+      IsWantedAdvice n (is_some n.name || always_hints a) (λ hint. hint ≢ []) (advice_in r.advice)
   pub note : r.note.now ≡ []
 
 -- the answer to what an action asks of a job: that of the job that it judges
 abbrev pub IsJobResponse : Naming → Action → Job → Response → Type 0
 IsJobResponse n a j r =
-    (k : Job) × Judges a j k × (IsVerdictResponse n a k r ⊎ IsLimitResponse n a k r)
+    (k : Job) × ActionJudges a j k × (IsVerdictResponse n a k r ⊎ IsLimitResponse n a k r)
 
 -- the answer to what an action asks of a text, where memory lasts
 abbrev pub IsTextResponse : Naming → Action → List ℕ → Response → Type 0
-IsTextResponse n a t r = IsRefusalResponse n a t r ⊎ IsOfJob t (λ j. IsJobResponse n a j r)
+IsTextResponse n a t r = IsRefusalResponse n a t r ⊎ HoldsOfDeckJob t (λ j. IsJobResponse n a j r)
 
 -- the answer to what an action asks of a text
 abbrev pub IsResponse : Naming → Action → List ℕ → Response → Type 0
@@ -115,9 +115,9 @@ IsInputResponse n a old new r =
 -- failed, and it got a prefix
 abbrev pub IsOutputWritten : Response → Option (List ℕ) → Option (List ℕ) → Outcome → Type 0
 IsOutputWritten r old new end =
-    ((end ≡ r.outcome) × (IsDone end → Appends old new r.output.items)
-    × ((IsDone end → ⊥) → new ≡ old))
-    ⊎ ((end ≡ Failed failures.WriteFailed) × IsDone r.outcome
+    ((end ≡ r.outcome) × (IsCarriedOut end → Appends old new r.output.items)
+    × ((IsCarriedOut end → ⊥) → new ≡ old))
+    ⊎ ((end ≡ Failed failures.WriteFailed) × IsCarriedOut r.outcome
     × AppendsPrefix old new r.output.items)
 
 -- what is said of advice: its text, or the line that memory ran out for it

@@ -17,7 +17,7 @@ abbrev pub shown_word : List ℕ → List ℕ
 shown_word = flat_map shown_byte
 
 -- no two words of bytes are shown alike
-abbrev pub NoTwoAlike : Type 0
-NoTwoAlike =
+abbrev pub ShownWordsDiffer : Type 0
+ShownWordsDiffer =
     (v w : List ℕ) → AllByRecursion IsByte v → AllByRecursion IsByte w
     → shown_word v ≡ shown_word w → v ≡ w

@@ -8,7 +8,7 @@ ghost use Rattle.chan_walk.specs.Offence.{first_verdict};
 ghost use Rattle.chan_walk.specs.declared.verdict.Verdict.TheVariants.{No};
 ghost use Rattle.chan_run.specs.Advice.{AreJobNotes, IsAbsentNote, IsExchangeNote};
 ghost use Rattle.chan_run.specs.Advice.{IsExchangeAdvice, IsJobAdvice, IsVerdictAdvice};
-ghost use Rattle.chan_run.specs.Advice.{IsWhyAdvice, is_advised, is_chained_over, is_hinted};
+ghost use Rattle.chan_run.specs.Advice.{IsWhyAdvice, is_advised, is_chained_over, always_hints};
 ghost use Rattle.chan_run.specs.Advice.{no_job_note};
 ghost use Rattle.chan_run.specs.Name.{front_of, fronted};
 ghost use Rattle.chan_run.specs.Response.{IsWantedAdvice, advice_in};
@@ -35,10 +35,10 @@ pub(crate) fn refusal_advice(
     line: u64,
     cause: Cause,
 ) -> Option<Vec<u8>>
-    ensures { IsWantedAdvice naming.entry (is_some naming.entry.name || is_hinted action)
+    ensures { IsWantedAdvice naming.entry (is_some naming.entry.name || always_hints action)
         (λ hint. hint ≢ []) (advice_in result) }
 {
-    if !(naming.name.is_some() || is_hinted(action)) {
+    if !(naming.name.is_some() || always_hints(action)) {
         return Some(Vec::new(alloc));
     }
     let hint = hint_text(alloc, text, line, cause).ok()?;
@@ -46,8 +46,8 @@ pub(crate) fn refusal_advice(
 }
 
 /// Whether the hint on a line that is refused comes whether or not the input has a name.
-fn is_hinted(action: Action) -> bool
-    ensures { result ≡ is_hinted action }
+fn always_hints(action: Action) -> bool
+    ensures { result ≡ always_hints action }
 {
     matches!(action, Action::Why(_) | Action::Graph)
 }

@@ -4,7 +4,7 @@ ghost use Rattle.std.specs.Prelude.{◌≡◌, ◌↔◌, ◌+◌, ◌≤◌, �
 ghost use Rattle.chan_run.specs.MadeDeck.{IsImageDelivered, IsImageInputResponse, IsImageResponse};
 ghost use Rattle.chan_run.specs.MadeDeck.{IsNoJobAdvice};
 ghost use Rattle.chan_run.specs.Name.{name_in};
-ghost use Rattle.chan_run.specs.Outcome.{IsDone, IsImageEnd, IsWriteFailure};
+ghost use Rattle.chan_run.specs.Outcome.{IsCarriedOut, IsImageEnd, IsWriteFailure};
 ghost use Rattle.chan_run.specs.Response.{IsInputDelivered};
 ghost use Rattle.chan_run.specs.Texts.{WriterGot};
 ghost use Rattle.chan_run.specs.declared.failure.Failure.TheVariants as failures;
@@ -51,8 +51,8 @@ pub fn judge_deck<R: Read, W: Write, E: Write>(
     ensures answer { IsInputDelivered naming.entry action (R.remaining from.old.device)
         (R.remaining from.new.device) (W.contents to.old.device) (W.contents to.new.device)
         (E.contents errors.old.device) (E.contents errors.new.device) errors.new.failed result }
-    ensures early { (IsDone result → ⊥) → (IsWriteFailure result → ⊥) → to.new ≡ to.old }
-    ensures flushed { IsDone result → to.new.flushed ≡ true }
+    ensures early { (IsCarriedOut result → ⊥) → (IsWriteFailure result → ⊥) → to.new ≡ to.old }
+    ensures flushed { IsCarriedOut result → to.new.flushed ≡ true }
     ensures read { result ≡ Failed failures.ReadFailed ↔ (from.new.failed ≡ true) }
     ensures write { IsWriteFailure result ↔ (to.new.failed ≡ true) }
 {
@@ -101,8 +101,8 @@ pub fn make_deck<R: Read, W: Write, E: Write>(
         (R.remaining from.old.device) (R.remaining from.new.device)
         (W.contents to.old.device) (W.contents to.new.device)
         (E.contents errors.old.device) (E.contents errors.new.device) errors.new.failed result }
-    ensures early { (IsDone result → ⊥) → (IsWriteFailure result → ⊥) → to.new ≡ to.old }
-    ensures flushed { IsDone result → to.new.flushed ≡ true }
+    ensures early { (IsCarriedOut result → ⊥) → (IsWriteFailure result → ⊥) → to.new ≡ to.old }
+    ensures flushed { IsCarriedOut result → to.new.flushed ≡ true }
     ensures read { result ≡ Failed failures.ReadFailed ↔ (from.new.failed ≡ true) }
     ensures write { IsWriteFailure result ↔ (to.new.failed ≡ true) }
 {

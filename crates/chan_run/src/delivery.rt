@@ -4,7 +4,7 @@ ghost use Rattle.std.specs.Prelude.{◌≡◌, ◌↔◌, ◌++◌, false, true,
 ghost use Rattle.std.specs.Io.KnownBytes.{Appends};
 ghost use Rattle.ccw_core.specs.Written.{AppendsPrefix};
 ghost use Rattle.chan_run.specs.Name.{name_in};
-ghost use Rattle.chan_run.specs.Outcome.{IsDone, IsWriteFailure, line_over};
+ghost use Rattle.chan_run.specs.Outcome.{IsCarriedOut, IsWriteFailure, line_over};
 ghost use Rattle.chan_run.specs.Response.{IsDelivered, IsOutputWritten, error_text_of};
 ghost use Rattle.chan_run.specs.Texts.{WriterGot};
 ghost use Rattle.chan_run.specs.declared.failure.Failure.TheVariants as failures;
@@ -34,8 +34,8 @@ pub fn deliver<W: Write, E: Write>(
     ensures delivered { IsDelivered (name_in name.entry) response.now
         (W.contents to.old.device) (W.contents to.new.device)
         (E.contents errors.old.device) (E.contents errors.new.device) errors.new.failed result }
-    ensures early { (IsDone response.now.outcome → ⊥) → to.new ≡ to.old }
-    ensures flushed { IsDone result → to.new.flushed ≡ true }
+    ensures early { (IsCarriedOut response.now.outcome → ⊥) → to.new ≡ to.old }
+    ensures flushed { IsCarriedOut result → to.new.flushed ≡ true }
     ensures write { IsWriteFailure result ↔ (to.new.failed ≡ true) }
 {
     if is_done(response.outcome) && write_and_flush(response.output.as_slice(), to).is_err() {
@@ -57,7 +57,7 @@ pub(crate) fn write_output<W: Write>(
         (W.contents to.new.device) response.now.outcome) }
     ensures broken { IfErr result (λ _. IsOutputWritten response.now (W.contents to.old.device)
         (W.contents to.new.device) (Failed failures.WriteFailed)) }
-    ensures early { (IsDone response.now.outcome → ⊥) → to.new ≡ to.old }
+    ensures early { (IsCarriedOut response.now.outcome → ⊥) → to.new ≡ to.old }
     ensures fault { IsErr result ↔ (to.new.failed ≡ true) }
 {
     if is_done(response.outcome) {

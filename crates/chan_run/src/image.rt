@@ -2,7 +2,7 @@
 
 ghost use Rattle.std.specs.Prelude.{◌≡◌, ◌↔◌, ◌+◌, ◌≤◌, ◌^◌, false, true, length, IfErr, ◌<◌};
 ghost use Rattle.std.specs.Prelude.{if◌then◌else◌, is_some, IfOk, IfSome, IsErrOf, None, unwrap_or};
-ghost use Rattle.chan_run.specs.Image.{IsDeckText, IsNoDeck, IsNoImage, IsRoom};
+ghost use Rattle.chan_run.specs.Image.{IsDeckText, IsNoDeck, IsNoImage, IsImageRoom};
 ghost use Rattle.chan_run.specs.Image.{IsWholeImage, deck_of, filled};
 ghost use Rattle.chan_deck.specs.Image.{Spells};
 ghost use Rattle.chan_run.specs.declared.failure.Failure.TheVariants as failures;
@@ -66,7 +66,7 @@ pub(crate) fn read_image<R: Read>(
 
 /// How many bytes there is room for from the image's address on, if it doesn't lie past storage.
 fn room_for(options: &ImageOptions) -> Option<usize>
-    ensures some { IfSome result (IsRoom options.now) }
+    ensures some { IfSome result (IsImageRoom options.now) }
     ensures none { result ≡ None → unwrap_or options.now.size STORAGE_LIMIT < options.now.at }
 {
     let end = match options.size {

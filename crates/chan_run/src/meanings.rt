@@ -2,8 +2,8 @@
 
 ghost use Rattle.std.specs.Prelude.{◌≡◌, ◌↔◌, false, true};
 ghost use Rattle.chan_run.specs.Meanings.{AreTermsListed, AreWordsListed, IsInNoTable, IsNoWord};
-ghost use Rattle.chan_run.specs.Meanings.{IsUnknown, IsWordAnswer};
-ghost use Rattle.chan_run.specs.Outcome.{IsDone, IsWriteFailure};
+ghost use Rattle.chan_run.specs.Meanings.{IsUnknownWord, IsWordAnswer};
+ghost use Rattle.chan_run.specs.Outcome.{IsCarriedOut, IsWriteFailure};
 
 use crate::failure::Failure;
 use crate::nearest::nearest_word;
@@ -223,7 +223,7 @@ pub fn explain_word<W: Write>(alloc: Global, word: &str, to: &mut Watched<W>) ->
     requires { to.old.failed ≡ false }
     ensures answer { IsWordAnswer word.now (W.contents to.old.device) (W.contents to.new.device)
         result }
-    ensures early { (IsDone result → ⊥) → (IsWriteFailure result → ⊥) → to.new ≡ to.old }
+    ensures early { (IsCarriedOut result → ⊥) → (IsWriteFailure result → ⊥) → to.new ≡ to.old }
     ensures write { IsWriteFailure result ↔ (to.new.failed ≡ true) }
 {
     match term_of(word) {
@@ -242,7 +242,7 @@ fn explain_spelled<W: Write>(alloc: Global, word: &str, to: &mut Watched<W>) -> 
     requires word { IsInNoTable word.now }
     ensures answer { IsWordAnswer word.now (W.contents to.old.device) (W.contents to.new.device)
         result }
-    ensures early { (IsDone result → ⊥) → (IsWriteFailure result → ⊥) → to.new ≡ to.old }
+    ensures early { (IsCarriedOut result → ⊥) → (IsWriteFailure result → ⊥) → to.new ≡ to.old }
     ensures write { IsWriteFailure result ↔ (to.new.failed ≡ true) }
 {
     match spelled_text(alloc, word.as_bytes()) {
@@ -255,9 +255,9 @@ fn explain_spelled<W: Write>(alloc: Global, word: &str, to: &mut Watched<W>) -> 
 /// The outcome for an unknown word.
 fn unknown(alloc: Global, word: &str) -> Outcome
     requires { IsNoWord word.now }
-    ensures is { IsUnknown word.now result }
+    ensures is { IsUnknownWord word.now result }
     ensures other { IsWriteFailure result → ⊥ }
-    ensures undone { IsDone result → ⊥ }
+    ensures undone { IsCarriedOut result → ⊥ }
 {
     match nearest_word(alloc, word) {
         Ok(Some(nearest)) => Outcome::Unknown(nearest),

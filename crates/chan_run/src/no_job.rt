@@ -2,7 +2,7 @@
 
 ghost use Rattle.std.specs.Prelude.{◌≡◌, ◌+◌, ◌≤◌, ◌^◌, length, string_bytes, IfOk};
 ghost use Rattle.chan_run.specs.Name.{name_in};
-ghost use Rattle.chan_run.specs.NoJob.{IsExplainedOpenly, IsNoJobText, cure_note, is_of_ends};
+ghost use Rattle.chan_run.specs.NoJob.{IsExplainedOpenly, IsNoJobText, cure_note, comes_of_ends};
 ghost use Rattle.chan_walk.specs.JobSurvey.{IsSurvey};
 ghost use Rattle.chan_walk.specs.OpenJob.{IsOpenJob};
 ghost use Rattle.chan_walk.specs.declared.job.Job.{Job};
@@ -160,8 +160,8 @@ fn start_note(
 
 /// Whether a verdict may come from wrong ends of the image: data goes past the end of storage, or
 /// the program that begins at this address has no command there.
-fn is_of_ends(start: u32, verdict: Verdict) -> bool
-    ensures { result ≡ is_of_ends start verdict }
+fn comes_of_ends(start: u32, verdict: Verdict) -> bool
+    ensures { result ≡ comes_of_ends start verdict }
 {
     match verdict {
         Verdict::No { address, reason } => match reason {
@@ -179,7 +179,7 @@ fn cure_note(alloc: Global, job: &Job, verdict: Verdict) -> Result<String, Alloc
     ensures { IfOk result (λ note. string_bytes note ≡ cure_note job.now verdict) }
 {
     let size = job.storage.len();
-    if is_of_ends(job.start, verdict) && size < STORAGE_LIMIT {
+    if comes_of_ends(job.start, verdict) && size < STORAGE_LIMIT {
         return storage_note(alloc, size);
     }
     Ok(String::new(alloc))

@@ -3,7 +3,7 @@
 ghost use Rattle.std.specs.Prelude.{◌≡◌, ◌↔◌, ◌++◌, false, true, codes, IfSome, List, ℕ, IsErr};
 ghost use Rattle.chan_args.specs.declared.image_words.ImageOption.TheVariants as options;
 ghost use Rattle.chan_run.specs.Texts.{WriterGot};
-ghost use Rattle.chan_run.specs.OptionFault.{IsAroundTip, IsFaultText, IsTipless, IsUsageText};
+ghost use Rattle.chan_run.specs.OptionFault.{IsAroundTip, IsFaultText, MayLackTip, IsUsageText};
 ghost use Rattle.chan_run.specs.OptionFault.{file_fault_text, grants_fault_text, usage_of};
 
 use crate::bases::{correction, reading};
@@ -177,7 +177,7 @@ pub fn report_usage<'a, W: Write>(words: &'a [String], text: &'a str, to: &mut W
 /// Writes a text without a tip, if it has one of those that are left out.
 fn write_tipless<W: Write>(text: &str, to: &mut Watched<W>) -> Result<(), DeviceFault>
     requires { to.old.failed ≡ false }
-    ensures said { (said : List ℕ) × IsTipless text.now said × WriterGot said
+    ensures said { (said : List ℕ) × MayLackTip text.now said × WriterGot said
         (W.contents to.old.device) (W.contents to.new.device) to.new.failed }
     ensures fault { IsErr result ↔ (to.new.failed ≡ true) }
 {

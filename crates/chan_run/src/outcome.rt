@@ -3,7 +3,7 @@
 ghost use Rattle.std.specs.Prelude.{◌≡◌, ◌≤◌, ◌↔◌, ◌⊎◌, ◌++◌, false, true, IsErr, IsTrue};
 ghost use Rattle.std.specs.Prelude.{IsErrOf, IsOk};
 ghost use Rattle.chan_run.specs.Name.{name_in};
-ghost use Rattle.chan_run.specs.Outcome.{IsDone, IsWriteFailure, line_over};
+ghost use Rattle.chan_run.specs.Outcome.{IsCarriedOut, IsWriteFailure, line_over};
 ghost use Rattle.chan_run.specs.Outcome.{outcome_of_show, outcome_of_write, status_of};
 ghost use Rattle.chan_run.specs.Response.{outcome_of};
 ghost use Rattle.chan_run.specs.Texts.{WriterGot};
@@ -119,7 +119,7 @@ pub fn ends_run(outcome: Outcome) -> bool
 
 /// Whether all was done that was asked for.
 pub(crate) fn is_done(outcome: Outcome) -> bool
-    ensures { IsTrue result ↔ IsDone outcome }
+    ensures { IsTrue result ↔ IsCarriedOut outcome }
 {
     matches!(outcome, Outcome::Done | Outcome::Denied)
 }

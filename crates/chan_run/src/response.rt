@@ -2,7 +2,7 @@
 
 ghost use Rattle.std.specs.Prelude.{◌⊎◌, IfOk};
 ghost use Rattle.chan_deck.specs.Refused.{IsRefused};
-ghost use Rattle.chan_run.specs.Output.{IsOfJob};
+ghost use Rattle.chan_run.specs.Output.{HoldsOfDeckJob};
 ghost use Rattle.chan_run.specs.Response.{IsBareResponse, IsJobResponse, IsLimitResponse};
 ghost use Rattle.chan_run.specs.Response.{IsRefusalResponse, IsResponse, IsTextResponse};
 ghost use Rattle.chan_run.specs.Response.{IsVerdictResponse};

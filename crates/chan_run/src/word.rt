@@ -1,7 +1,7 @@
 //! How a word of the command line is shown: on one line of printable ASCII, and no two alike.
 
 ghost use Rattle.std.specs.Prelude.{◌≡◌, ◌++◌, IfOk, OnOk, string_bytes};
-ghost use Rattle.chan_run.specs.Word.{NoTwoAlike, shown_byte, shown_word};
+ghost use Rattle.chan_run.specs.Word.{ShownWordsDiffer, shown_byte, shown_word};
 
 use hex::encode_upper;
 use std::alloc::{AllocError, Global};
@@ -32,5 +32,5 @@ fn push_shown(alloc: Global, text: &mut String, byte: u8) -> Result<(), AllocErr
 /// A law: no two words are shown alike. It is the contract of a function that does nothing, so that
 /// it is proved.
 fn no_two_alike()
-    ensures { NoTwoAlike }
+    ensures { ShownWordsDiffer }
 {}

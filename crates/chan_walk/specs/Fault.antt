@@ -9,7 +9,7 @@ use Rattle.ckd_core.specs.declared.command.Kind.TheVariants.{Idle, Inward, Outwa
 use Rattle.ckd_core.specs.Track.{is_allowed}
 use Rattle.ckd_core.specs.Extents.{has_cylinder}
 use Rattle.ckd_core.specs.Mask.{inhibits, is_at_least}
-use Rattle.ckd_core.specs.Command.{Entry as Command, lookup, is_seek, recalibrates, sets_mask}
+use Rattle.ckd_core.specs.Command.{CommandEntry, lookup, is_seek, recalibrates, sets_mask}
 use Rattle.chan_walk.specs.declared.job.Job.{Job}
 use Rattle.chan_walk.specs.declared.place.Entry.{Entry}
 use Rattle.chan_walk.specs.declared.place.Entry.TheVariants.{Fresh, ChainIn, ChainOut, ChainSearch}
@@ -24,7 +24,7 @@ use Rattle.chan_walk.specs.Job.{storage_of, extents_of, fetch_of, store_of, head
 use Rattle.chan_walk.specs.Place.{is_fresh, ccw_of}
 
 -- the kind of a command that was looked up; a code of no command moves nothing
-abbrev pub kind_of_command : Option Command → Kind
+abbrev pub kind_of_command : Option CommandEntry → Kind
 kind_of_command None = Idle
 kind_of_command (Some k) = k.kind
 

@@ -5,7 +5,7 @@ use Rattle.ccw_core.specs.Storage.{ccw_at}
 use Rattle.ckd_core.specs.declared.command.Kind.{Kind}
 use Rattle.ckd_core.specs.declared.command.Kind.TheVariants.{Inward, Outward, Search}
 use Rattle.ckd_core.specs.Entries.{entry_of}
-use Rattle.ckd_core.specs.Command.{Entry as Command, lookup}
+use Rattle.ckd_core.specs.Command.{CommandEntry, lookup}
 use Rattle.chan_walk.specs.declared.place.Entry.{Entry}
 use Rattle.chan_walk.specs.declared.place.Entry.TheVariants.{Fresh, ChainIn, ChainOut, ChainSearch}
 use Rattle.chan_walk.specs.declared.place.Place.{Place}
@@ -15,16 +15,16 @@ use Rattle.chan_walk.specs.Place.{is_fresh}
 
 -- the command of the table that begins at p with the CCW c: none under data chaining, and none
 -- where the table hasn't the code
-abbrev pub begun : Place → Fields → Option Command
+abbrev pub begun : Place → Fields → Option CommandEntry
 begun p c = if is_fresh p.entered then lookup c.command else None
 
 -- the same, where a CCW stands
-abbrev pub begun_at : Place → Option Fields → Option Command
+abbrev pub begun_at : Place → Option Fields → Option CommandEntry
 begun_at p None = None
 begun_at p (Some c) = begun p c
 
 -- the kind of a CCW entered in a way, by the command that begins with it
-abbrev pub kind_by : Entry → Option Command → Kind
+abbrev pub kind_by : Entry → Option CommandEntry → Kind
 kind_by Fresh command = kind_of_command command
 kind_by ChainIn command = Inward
 kind_by ChainOut command = Outward

@@ -9,7 +9,7 @@ use denote.Enum.Bare.{sameb}
 use mathlib.Core.Bool.{beq}
 
 -- the path that front ends, and whose front part is rest, is the best to the place of the index to
-pub record Ends (j : Job) (ps : List Place) (to : ℕ) (whole : List Place) : Type 0 where
+pub record EndsBestPath (j : Job) (ps : List Place) (to : ℕ) (whole : List Place) : Type 0 where
   pub last : Place
   pub before : List Place
   pub is : whole ≡ last ∷ before
@@ -21,7 +21,7 @@ pub record IsWayBack (j : Job) (ps : List Place) (to at : ℕ) (path : List Plac
   pub front : List Place
   pub is : path ≡ front ++ current ∷ []
   pub there : slice_get ps at ≡ Some current
-  pub goes : (rest : List Place) → IsBestPath j ps at current rest → Ends j ps to (front ++ current ∷ rest)
+  pub goes : (rest : List Place) → IsBestPath j ps at current rest → EndsBestPath j ps to (front ++ current ∷ rest)
 
 module _ (j : Job) (ls : List Seen) (fs : List ℕ) (f : HasFound j ls fs) where
   abbrev ps : List Place

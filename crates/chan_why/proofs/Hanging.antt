@@ -30,31 +30,31 @@ use Rattle.chan_walk.proofs.Machine.Waiting.{WaitsSpared}
 use Rattle.chan_walk.proofs.Machine.Yes.{all_kept, each_ok, fresh_out}
 use Rattle.chan_walk.proofs.Theory.Granting.{same_under_yes, turned}
 use Rattle.chan_walk.proofs.Theory.Faults.{clear_check, clear_good, yes_clear}
-use Rattle.chan_walk.proofs.Theory.Follows.{Follows, by_command, by_data, by_skip, by_transfer, follows, succeeds}
+use Rattle.chan_walk.proofs.Theory.Follows.{FollowsBy, by_command, by_data, by_skip, by_transfer, follows, succeeds}
 use Rattle.chan_walk.proofs.Theory.SameCcws.{same_ccw}
 
 -- ---- where a step leads
 
 led_by : {p q : Place} {c : Fields} {k : Kind} {m : ℕ} {g h : Gathered} {es : List Event} {st : Stage}
-    → Continues p c k m g es st → st ≡ At q h → is_transfer c ≡ false → Follows p c k q
+    → Continues p c k m g es st → st ≡ At q h → is_transfer c ≡ false → FollowsBy p c k q
 led_by machine.ends is t = absurd (cc)
 led_by {p = p} {q = q} {c = c} {k = k} (machine.on_data {e = e} cd ch mc) is t =
     let same : straight_to (p.address + 8) e ≡ q = cc in
-    subst (Follows p c k) same (by_data t cd ch)
+    subst (FollowsBy p c k) same (by_data t cd ch)
 led_by {p = p} {q = q} {c = c} {k = k} (machine.on_command cd cm) is t =
     let same : straight_to (p.address + 8) Fresh ≡ q = cc in
-    subst (Follows p c k) same (by_command t cd cm)
+    subst (FollowsBy p c k) same (by_command t cd cm)
 led_by {p = p} {q = q} {c = c} {k = k} (machine.on_skip cd cm ks) is t =
     let same : straight_to (p.address + 16) Fresh ≡ q = cc in
-    subst (Follows p c k) same (by_skip t cd cm ks)
+    subst (FollowsBy p c k) same (by_skip t cd cm ks)
 led_by (machine.on_short cd mc) is t = absurd (cc)
 
 led : {s : List ℕ} {y f : ℕ} {p q : Place} {g h : Gathered} {es : List Event} {t : List ℕ} {y' f' : ℕ} {st : Stage}
-    → Step s y f p g es t y' f' st → st ≡ At q h → Follows p (ccw s p.address) (kind_of p.entered (ccw s p.address)) q
+    → Step s y f p g es t y' f' st → st ≡ At q h → FollowsBy p (ccw s p.address) (kind_of p.entered (ccw s p.address)) q
 led (machine.checked e) is = absurd (cc)
 led {s = s} {p = p} {q = q} (machine.transferred e t) is =
     let same : transferred_to (ccw s p.address).address p.entered ≡ q = cc in
-    subst (Follows p (ccw s p.address) _) same (by_transfer t)
+    subst (FollowsBy p (ccw s p.address) _) same (by_transfer t)
 led (machine.unknown e t fr un) is = absurd (cc)
 led (machine.carried e t known le mv sk hm fm gs) is = led_by gs is t
 
@@ -78,14 +78,14 @@ whole : {e : Entry} (k : Kind) (c : Fields) → chained k ≡ Some e → full_co
 whole k c h = search rules
 
 -- from p, with what a seek has gathered, the CCW c leads on to q
-abbrev LeadsOn : Place → Gathered → Place → Fields → Type 0
-LeadsOn p g q c =
+abbrev SeekLeadsOn : Place → Gathered → Place → Fields → Type 0
+SeekLeadsOn p g q c =
     IsFew (under_way p c g)
     × (is_transfer c ≡ false → (is_fresh p.entered ≡ true → is_known c.command ≡ true) × Fills p c (under_way p c g))
-    × Follows p c (kind_of p.entered c) q
+    × FollowsBy p c (kind_of p.entered c) q
 
 -- a step from p to some place
-record Onward (s : List ℕ) (y f : ℕ) (p : Place) (g : Gathered) : Type 0 where
+record StepAhead (s : List ℕ) (y f : ℕ) (p : Place) (g : Gathered) : Type 0 where
   es : List Event
   after : List ℕ
   arm : ℕ
@@ -98,13 +98,13 @@ record Onward (s : List ℕ) (y f : ℕ) (p : Place) (g : Gathered) : Type 0 whe
 module _ (j : Job) (y : ℕ) (p : Place) (g : Gathered) (bytes : AreBytes (storage_of j))
     (e : program_check (storage_of j) p ≡ None) (few : IsFew (under_way p (ccw_of j p) g)) where
   onward : {to : Place} {h : Gathered} → Known j p → is_transfer (ccw_of j p) ≡ false
-      → Continues p (ccw_of j p) (kind_at j p) (bytes_at j p) (seek_at j y p g few).after [] (At to h) → Onward (storage_of j) y j.mask p g
+      → Continues p (ccw_of j p) (kind_at j p) (bytes_at j p) (seek_at j y p g few).after [] (At to h) → StepAhead (storage_of j) y j.mask p g
   onward {to = to} {h = h} known t goes =
       let r = carry_out j bytes y p g few e t known tt goes in
       record { es = r.es; after = storage_of j; arm = y; mask = j.mask; to = to; gathered = h; step = r.step }
 
   by_chaining : Known j p → Fills p (ccw_of j p) (under_way p (ccw_of j p) g) → is_transfer (ccw_of j p) ≡ false
-      → chains_data (ccw_of j p) ≡ false → chains_command (ccw_of j p) ≡ true → Onward (storage_of j) y j.mask p g
+      → chains_data (ccw_of j p) ≡ false → chains_command (ccw_of j p) ≡ true → StepAhead (storage_of j) y j.mask p g
   by_chaining known fills t cd cm =
       let sk = seek_at j y p g few in
       let none = done j p (ccw_of j p) (under_way p (ccw_of j p) g) sk.es sk.after fills cd sk.left in
@@ -112,7 +112,7 @@ module _ (j : Job) (y : ℕ) (p : Place) (g : Gathered) (bytes : AreBytes (stora
       (sym none) (machine.on_command cd cm))
 
   steps : {q : Place} → (is_transfer (ccw_of j p) ≡ false → Known j p × Fills p (ccw_of j p) (under_way p (ccw_of j p) g))
-      → Follows p (ccw_of j p) (kind_at j p) q → Onward (storage_of j) y j.mask p g
+      → FollowsBy p (ccw_of j p) (kind_at j p) q → StepAhead (storage_of j) y j.mask p g
   steps r (by_transfer t) = record { es = []; after = storage_of j; arm = y; mask = j.mask; to = _; gathered = g; step = machine.transferred e t }
   steps r (by_data t cd ch) = onward (r t).0 t (machine.on_data cd ch (whole (kind_at j p) (ccw_of j p) ch))
   steps r (by_command t cd cm) = by_chaining (r t).0 (r t).1 t cd cm
@@ -133,7 +133,7 @@ module _ (j : Job) (v : IsVerdict j Yes) (p : Place) (reached : IsReachable j p)
   -- a step leads to a successor
   led_on : {s : List ℕ} {y f : ℕ} {q : Place} {g h : Gathered} {es : List Event} {t : List ℕ} {y' f' : ℕ} {st : Stage}
       → Same j s → Step s y f p g es t y' f' st → st ≡ At q h → Successor j p q
-  led_on {s = s} {q = q} same w is = succeeds p (ccw_of j p) _ q (subst (λ c. Follows p c (kind_of p.entered c) q) (ccw_kept s same) (led w is))
+  led_on {s = s} {q = q} same w is = succeeds p (ccw_of j p) _ q (subst (λ c. FollowsBy p c (kind_of p.entered c) q) (ccw_kept s same) (led w is))
 
   -- a place without a successor ends the program
   on_or_end : (EndsTheProgram j p → ⊥) → (o r : Option Place) → next_of p (ccw_of j p) (kind_of p.entered (ccw_of j p)) ≡ o
@@ -203,12 +203,12 @@ module _ (j : Job) (v : IsVerdict j Yes) (p : Place) (reached : IsReachable j p)
       q = on_or_end n _ _ refl refl
 
       -- what is so of the CCW as it was is so of it now
-      ready : (c : Fields) → ccw_of j p ≡ c → LeadsOn p g q.0 c
+      ready : (c : Fields) → ccw_of j p ≡ c → SeekLeadsOn p g q.0 c
       ready c e =
-          subst (LeadsOn p g q.0) e
+          subst (SeekLeadsOn p g q.0) e
           (few g i.stage.1, λ t. ((clear_good j p clear t).known, fills t (begins_seek p (ccw_of j p)) refl g i.stage.1), follows p (ccw_of j p) _ q.0 q.1)
 
-      on : Onward m.storage m.arm m.mask p g
+      on : StepAhead m.storage m.arm m.mask p g
       on = let r = ready (ccw_of there p) same in steps there m.arm p g bytes checked r.0 r.1 r.2
 
 pub steps_on_unless_it_ends : StepsOnUnlessItEnds

@@ -8,7 +8,7 @@ use Rattle.std.proofs.lemmas.Bool.{and_parts, or_cases, or_left, or_right, lt-lt
 use Rattle.std.proofs.lemmas.List.Kept.{Contains-dedup_nat, Contains-from_dedup}
 use Rattle.std.proofs.lemmas.List.Sorted.{Contains-permutation, IsPermutation-sym}
 use Rattle.ckd_core.specs.declared.command.Kind.TheVariants.{Inward, Search}
-use Rattle.ckd_core.specs.Command.{Entry as Command}
+use Rattle.ckd_core.specs.Command.{CommandEntry}
 use Rattle.chan_why.specs.Notes.{AddsAddress, AreAddressesOf, AreUnused, IsMachineByte, HasNoSuccessor, IsSeenWith, HasUsedByte, NothingFollows, meets_any}
 use Rattle.chan_walk.specs.Moved.{PassesTest}
 use Rattle.chan_areas.specs.Merged.{Meets}
@@ -146,7 +146,7 @@ idle_without_next p c Inward t d n = absurd (cc)
 idle_without_next p c Outward t d n = absurd (cc)
 idle_without_next p c Search t d n = absurd (cc)
 
-idle_if_known : (p : Place) (c : Fields) (o : Option Command) → is_some o ≡ true → is_transfer c ≡ false
+idle_if_known : (p : Place) (c : Fields) (o : Option CommandEntry) → is_some o ≡ true → is_transfer c ≡ false
     → chains_data c ≡ true → next_of p c (kind_of_command o) ≡ None → is_idle o ≡ true
 idle_if_known p c None k t d n = absurd (cc)
 idle_if_known p c (Some e) k t d n = idle_without_next p c e.kind t d n

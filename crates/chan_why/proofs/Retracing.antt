@@ -6,7 +6,7 @@ use Rattle.std.proofs.lemmas.Bool.{false_from_ne_true}
 use Rattle.std.proofs.lemmas.List.{append-nil, get_or-set_other, get_or-set_same, get_or_append_left, get_or_past, length-append, length-set, length-take, take-append-le, take_at}
 use Rattle.std.proofs.lemmas.List.Sums.{sum_by-set}
 use Rattle.std.proofs.lemmas.Option.{get_or_from_slice_get}
-use Rattle.chan_why.specs.declared.hang.Found.{Found}
+use Rattle.chan_why.specs.declared.hang.FoundLooks.{FoundLooks}
 use Rattle.chan_walk.specs.Walk.{Follows, IsAmong}
 use Rattle.chan_why.specs.Hang.{CanEnd, ComesAfter, ComesBefore, IsEarlier, MayHang, end_after}
 use Rattle.chan_walk.proofs.Algorithms.Looking.{clear_shows_none}
@@ -154,13 +154,13 @@ before_more ls i l p q r t here are x y z = record {
 -- ---- what is found
 
 -- the looks of P are found already
-pub finds_known : (n : ℕ) (P : ℕ → Type 0) (f : Found) → MarksFound n f → ((k : ℕ) → P k → Has f.order.items k) → FindsMore n P f f
+pub finds_known : (n : ℕ) (P : ℕ → Type 0) (f : FoundLooks) → MarksFound n f → ((k : ℕ) → P k → Has f.order.items k) → FindsMore n P f f
 finds_known n P f m known = record { marked = m; more = []; order = sym (append-nil f.order.items); found = λ k. search (rules, known) }
 
-pub finds_as : (n : ℕ) (P Q : ℕ → Type 0) (f g : Found) → ((k : ℕ) → P k ↔ Q k) → FindsMore n P f g → FindsMore n Q f g
+pub finds_as : (n : ℕ) (P Q : ℕ → Type 0) (f g : FoundLooks) → ((k : ℕ) → P k ↔ Q k) → FindsMore n P f g → FindsMore n Q f g
 finds_as n P Q f g same r = record { marked = r.marked; more = r.more; order = r.order; found = λ k. search (rules, same k, r.found k) }
 
-pub finds_both : (n : ℕ) (P Q : ℕ → Type 0) (f g h : Found) → FindsMore n P f g → FindsMore n Q g h → FindsMore n (λ k. P k ⊎ Q k) f h
+pub finds_both : (n : ℕ) (P Q : ℕ → Type 0) (f g h : FoundLooks) → FindsMore n P f g → FindsMore n Q g h → FindsMore n (λ k. P k ⊎ Q k) f h
 finds_both n P Q f g h one other = record {
   marked = other.marked;
   more = one.more ++ other.more;
@@ -181,7 +181,7 @@ marks_more ms fs at k l same = go (cases_eq k at)
         back e (inr h) = absurd (d (sym h))
 
 -- one look more
-pub find_one : (n : ℕ) (f g : Found) (at : ℕ) → MarksFound n f → at < n → get_or f.marks.items at false ≡ false
+pub find_one : (n : ℕ) (f g : FoundLooks) (at : ℕ) → MarksFound n f → at < n → get_or f.marks.items at false ≡ false
     → g.marks.items ≡ set f.marks.items at true → g.order.items ≡ f.order.items ++ at ∷ [] → FindsMore n (λ k. at ≡ k) f g
 find_one n f g at m l off marks order = record {
   marked = record {
@@ -211,7 +211,7 @@ find_one n f g at m l off marks order = record {
     more : (k : ℕ) → (get_or g.marks.items k false ≡ true) ↔ (Has f.order.items k ⊎ (at ≡ k))
     more k = rw marks (marks_more f.marks.items f.order.items at k within (m.agrees k))
 
-pub found_within : (n : ℕ) (f : Found) (i : ℕ) → MarksFound n f → i < length f.order.items → get_or f.order.items i 0 < n
+pub found_within : (n : ℕ) (f : FoundLooks) (i : ℕ) → MarksFound n f → i < length f.order.items → get_or f.order.items i 0 < n
 found_within n f i m l = go (cases_lt (get_or f.order.items i 0) n)
   where
     go : (get_or f.order.items i 0 < n) ⊎ (n ≤ get_or f.order.items i 0) → get_or f.order.items i 0 < n
@@ -335,7 +335,7 @@ module _ (j : Job) (ls : List Seen) (are : AreLooks j ls) where
     at_look : (n k : ℕ) (l : Seen) → slice_get ls k ≡ Some l → HasBefore before n k → ComesAfter l n
     at_look n k l e h = let b = preds.only k n h in subst (λ x. ComesAfter x n) (same_at ls k k b.0 l b.1 e refl) b.2
 
-    pub retraces_begin : (n : ℕ) (f g : Found) → f.order.items ≡ [] → FindsMore n (HasBefore before 0) f g → Retraces g.order.items 0
+    pub retraces_begin : (n : ℕ) (f g : FoundLooks) → f.order.items ≡ [] → FindsMore n (HasBefore before 0) f g → Retraces g.order.items 0
     retraces_begin n f g none more = record {
       within = omega arith;
       only = λ k l e h. only k l e ((more.found k).0 h);
@@ -351,7 +351,7 @@ module _ (j : Job) (ls : List Seen) (are : AreLooks j ls) where
         only k l e (inl h) = absurd (subst (λ z. Has z k) none h)
         only k l e (inr h) = ends l (comes k 0 l e (at_look 0 k l e h))
 
-    pub retraces_on : (n : ℕ) (f g : Found) (i : ℕ) (l : Seen) → i < length f.order.items → slice_get ls (get_or f.order.items i 0) ≡ Some l
+    pub retraces_on : (n : ℕ) (f g : FoundLooks) (i : ℕ) (l : Seen) → i < length f.order.items → slice_get ls (get_or f.order.items i 0) ≡ Some l
         → FindsMore n (HasBefore before (place_number l.place + 1)) f g → Retraces f.order.items i → Retraces g.order.items (i + 1)
     retraces_on n f g i l here at more t = record {
       within = omega (arith, here, ap length more.order, length-append f.order.items more.more);
@@ -380,7 +380,7 @@ module _ (j : Job) (ls : List Seen) (are : AreLooks j ls) where
             let same = same_at ls (get_or g.order.items o 0) (get_or f.order.items i 0) m l e at (was ∙ ap (λ z. get_or f.order.items z 0) is) in
             (more.found k).1 (inr (listed (place_number l.place + 1) k (subst (λ (z : Seen). ComesBefore ls k (place_number z.place + 1)) same b)))
 
-  pub retraced : AreReached j (places_of_looks ls) → (n : ℕ) (f : Found) (i : ℕ) → MarksFound n f → length f.order.items ≤ i
+  pub retraced : AreReached j (places_of_looks ls) → (n : ℕ) (f : FoundLooks) (i : ℕ) → MarksFound n f → length f.order.items ≤ i
       → Retraces f.order.items i → (k : ℕ) (p : Place) → slice_get (places_of_looks ls) k ≡ Some p → (get_or f.marks.items k false ≡ true) ↔ CanEnd j p
   retraced reached n f i m all t k p e = (
     (λ h. let l = look_there ls k p e in subst (CanEnd j) l.2 (t.only k l.0 l.1 ((m.agrees k).0 h))),

@@ -11,7 +11,7 @@ use Rattle.ccw_core.specs.Held.{bytes_held}
 use Rattle.chan_walk.specs.declared.job.Job.{Job}
 use Rattle.chan_walk.specs.declared.place.Place.{Place}
 use Rattle.chan_walk.specs.declared.verdict.Verdict.TheVariants.{Yes}
-use Rattle.chan_why.specs.declared.hang.Found.{Found}
+use Rattle.chan_why.specs.declared.hang.FoundLooks.{FoundLooks}
 use Rattle.chan_why.specs.declared.hang.Predecessor.{Predecessor}
 use Rattle.chan_why.specs.declared.hang.Predecessors.{Predecessors}
 use Rattle.chan_walk.specs.Alarm.{AreBytes, ArePlaces, IsProper}
@@ -171,13 +171,13 @@ pub record AddsPredecessor (at : ℕ) (o : Option ℕ) (p q : Predecessors) : Ty
       ↔ (HasBefore p.list.items of k ⊎ ((o ≡ Some of) × (at ≡ k)))
 
 -- of n looks exactly those found have a mark, and each was found once
-pub record MarksFound (n : ℕ) (f : Found) : Type 0 where
+pub record MarksFound (n : ℕ) (f : FoundLooks) : Type 0 where
   pub len : length f.marks.items ≡ n
   pub agrees : (k : ℕ) → (slice_index_or f.marks.items k false ≡ true) ↔ Has f.order.items k
   pub once : length f.order.items + count_by not f.marks.items ≡ n
 
 -- g has what f has, and then looks for which P holds: all of these
-pub record FindsMore (n : ℕ) (P : ℕ → Type 0) (f g : Found) : Type 0 where
+pub record FindsMore (n : ℕ) (P : ℕ → Type 0) (f g : FoundLooks) : Type 0 where
   pub marked : MarksFound n g
   pub more : List ℕ
   pub order : g.order.items ≡ f.order.items ++ more

@@ -9,7 +9,7 @@ use Rattle.ccw_core.specs.Areas.{lies_in, end_of}
 use Rattle.ccw_core.specs.Ccw.{Fields, chains_data, is_on, is_transfer}
 use Rattle.ckd_core.specs.declared.command.Kind.{Kind}
 use Rattle.ckd_core.specs.declared.command.Kind.TheVariants.{Idle, Inward, Outward, Search}
-use Rattle.ckd_core.specs.Command.{Entry as Command, lookup}
+use Rattle.ckd_core.specs.Command.{CommandEntry, lookup}
 use Rattle.chan_walk.specs.declared.job.Job.{Job}
 use Rattle.chan_why.specs.declared.notes.Notes.{Notes}
 use Rattle.chan_walk.specs.declared.place.Place.{Place}
@@ -72,7 +72,7 @@ moves_nothing Outward = false
 moves_nothing Search = false
 
 -- a command that was looked up moves no data; a code of no command is none
-abbrev pub is_idle : Option Command → Bool
+abbrev pub is_idle : Option CommandEntry → Bool
 is_idle None = false
 is_idle (Some k) = moves_nothing k.kind
 

@@ -112,14 +112,14 @@ impl Predecessors {
 
 /// The looks that were found to be at places that can end.
 #[derive(Drop)]
-struct Found {
+struct FoundLooks {
     /// For each look whether it was found.
     marks: Vec<bool>,
     /// The indexes of those found, in the order in which they were.
     order: Vec<usize>,
 }
 
-impl Found {
+impl FoundLooks {
     /// Adds the look of a predecessor, if it comes before this and wasn't found already.
     fn add(&mut self, predecessor: Predecessor, of: u64) -> Result<(), AllocError>
         requires within { predecessor.at < length self.old.marks.items }
@@ -166,7 +166,7 @@ pub fn can_end(alloc: Global, looks: &[Look]) -> Result<Vec<bool>, AllocError>
     let predecessors = Predecessors::of_looks(alloc, looks)?;
     let mut marks = Vec::new(alloc);
     marks.resize(looks.len(), false)?;
-    let mut found = Found {
+    let mut found = FoundLooks {
         marks,
         order: Vec::new(alloc),
     };

@@ -134,7 +134,7 @@ fn carry_out(rt: &HostRuntime, words: &Words) -> u8 {
         Request::AllWithOf => report_all_with_of(&mut Watched::new(rt.stderr())),
         Request::Explain(parts) => explain(rt, parts.as_slice()),
         Request::ExplainFlags(flags) => explain(rt, &[flags]),
-        Request::Words => list_terms(rt),
+        Request::Words => list_all_words(rt),
         Request::Help(text) | Request::Version(text) => match text.to_string(rt.alloc()) {
             Ok(text) => print_out(rt, text),
             Err(AllocError) => report_on(rt, None, Outcome::Failed(Failure::OutOfMemory)),
@@ -229,7 +229,7 @@ fn explain_offences(rt: &HostRuntime, words: &Words, address: &str, names: &[&st
     }
 }
 
-fn list_terms(rt: &HostRuntime) -> u8 {
+fn list_all_words(rt: &HostRuntime) -> u8 {
     let mut output = Watched::new(rt.stdout());
     let answer = list_words(&mut output);
     end_with(rt, answer, &mut output)

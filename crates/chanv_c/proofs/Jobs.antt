@@ -10,10 +10,10 @@ use Rattle.chan_needs.specs.Remembered.{HoldsAreas, device_number}
 use Rattle.chan_needs.specs.Start.{IsFit}
 use Rattle.chan_needs.proofs.Remembering.{same_device}
 use Rattle.chanv_c.specs.declared.job.CJob.{CJob}
-use Rattle.chanv_c.specs.Job.{AreAlike, AskedIsOne, IsAskedJob, NameAlike}
+use Rattle.chanv_c.specs.Job.{AreEqualJobs, AskedIsOne, IsAskedJob, NameEqualJobs}
 
 -- one struct of C asks about one job
-pub are_alike : (c : CJob) (j k : Job) → IsAskedJob c j → IsAskedJob c k → AreAlike j k
+pub are_alike : (c : CJob) (j k : Job) → IsAskedJob c j → IsAskedJob c k → AreEqualJobs j k
 are_alike c j k one other = record {
   storage = one.storage ∙ sym other.storage;
   start = one.start ∙ sym other.start;
@@ -26,7 +26,7 @@ are_alike c j k one other = record {
 }
 
 -- two that ask about one job name the same
-name_alike : (c d : CJob) (j : Job) → IsAskedJob c j → IsAskedJob d j → NameAlike c d
+name_alike : (c d : CJob) (j : Job) → IsAskedJob c j → IsAskedJob d j → NameEqualJobs c d
 name_alike c d j one other = record {
   storage = sym one.storage ∙ other.storage;
   start = sym one.start ∙ other.start;
@@ -42,7 +42,7 @@ pub asked_is_one : AskedIsOne
 asked_is_one = record { job = are_alike; named = name_alike }
 
 -- a program that fits a job fits another that agrees with it
-pub fits_alike : (j k : Job) (p : Remembered) (fs : List Remembered) → AreAlike j k → IsFit j p fs
+pub fits_alike : (j k : Job) (p : Remembered) (fs : List Remembered) → AreEqualJobs j k → IsFit j p fs
     → IsFit k p fs
 fits_alike j k p fs a fit = record {
   program = record {

@@ -15,7 +15,7 @@ use Rattle.chanv_c.specs.declared.refusal.Refusal.{Refusal}
 use Rattle.chanv_c.specs.declared.refusal.Refusal.TheVariants.{TooManyPlaces, Memory, Wrong}
 use Rattle.chanv_c.specs.declared.writing.CPlace.{CPlace}
 use Rattle.chanv_c.specs.Job.{IsAskedJob}
-use Rattle.chanv_c.specs.Faults.{HasNoFault, HasNoneBelow, IsFirstFault, HasFaultCode}
+use Rattle.chanv_c.specs.Faults.{HasNoFault, HasNoFaultBelow, IsFirstFault, HasFaultCode}
 use Rattle.chanv_c.specs.Faults.{fault_code, fault_extent}
 use Rattle.chanv_c.specs.declared.codes.TheConstants as codes
 
@@ -26,7 +26,7 @@ pub record IsJudged (c : CJob) (v : Verdict) : Type 0 where
   pub answer : IsAnswer job v
 
 -- the verdict is no, with this address and the reason of this number
-pub record IsDenied (c : CJob) (address number : ℕ) : Type 0 where
+pub record IsJudgedNo (c : CJob) (address number : ℕ) : Type 0 where
   pub reason : Reason
   pub number_is : number_of reason ≡ number
   pub judged : IsJudged c (No address reason)
@@ -88,7 +88,7 @@ refusal_extent (Wrong f) = fault_extent f
 -- allocation is refused only without them
 abbrev pub IsRefusal : Type 0 → CJob → Refusal → Type 0
 IsRefusal crowded c TooManyPlaces = crowded × HasNoFault c
-IsRefusal crowded c Memory = HasNoneBelow c codes.EXTENT_BACKWARDS
+IsRefusal crowded c Memory = HasNoFaultBelow c codes.EXTENT_BACKWARDS
 IsRefusal crowded c (Wrong f) = IsFirstFault c f
 
 -- what the number of an answer says, and the extent told with it: that too many places are
@@ -96,7 +96,7 @@ IsRefusal crowded c (Wrong f) = IsFirstFault c f
 -- number first. A job that has a fault gets no answer, nor is there too little room for one
 pub record IsAnswerCode (crowded : Type 0) (c : CJob) (code extent : ℕ) : Type 0 where
   pub many : code ≡ codes.TOO_MANY_PLACES → crowded
-  pub memory : code ≡ codes.MEMORY → HasNoneBelow c codes.EXTENT_BACKWARDS
+  pub memory : code ≡ codes.MEMORY → HasNoFaultBelow c codes.EXTENT_BACKWARDS
   pub refused : codes.STORAGE_TOO_LARGE ≤ code → code ≢ codes.NO_ROOM → HasFaultCode c code extent
   pub accepted : (code < codes.MEMORY) ⊎ (code ≡ codes.NO_ROOM) → HasNoFault c
   pub last : code ≤ codes.RESERVED_NOT_ZERO

@@ -49,8 +49,8 @@ fault_extent NotALimit = 0
 fault_extent ReservedNotZero = 0
 
 -- no fault with a number below n applies
-abbrev pub HasNoneBelow : CJob → ℕ → Type 0
-HasNoneBelow c n = (f : JobFault) → fault_code f < n → HasJobFault c f → ⊥
+abbrev pub HasNoFaultBelow : CJob → ℕ → Type 0
+HasNoFaultBelow c n = (f : JobFault) → fault_code f < n → HasJobFault c f → ⊥
 
 -- nothing is wrong with the job
 abbrev pub HasNoFault : CJob → Type 0
@@ -66,7 +66,7 @@ RightHasNoFault =
 -- the fault applies, and none before it
 pub record IsFirstFault (c : CJob) (f : JobFault) : Type 0 where
   pub applies : HasJobFault c f
-  pub first : HasNoneBelow c (fault_code f)
+  pub first : HasNoFaultBelow c (fault_code f)
 
 -- the first fault of the job has this number, and names this extent
 pub record HasFaultCode (c : CJob) (code extent : ℕ) : Type 0 where

@@ -6,7 +6,7 @@ use Rattle.chan_walk.specs.Job.{extents_of, fetch_of, storage_of, store_of}
 use Rattle.chan_needs.specs.Remembered.{device_number}
 use Rattle.chan_needs.specs.Listed.{pair}
 use Rattle.chanv_c.specs.declared.job.CJob.{CJob}
-use Rattle.chanv_c.specs.declared.job.Ready.{Ready}
+use Rattle.chanv_c.specs.declared.job.ReadyJob.{ReadyJob}
 
 -- the extents that C names, as pairs
 abbrev pub extents_asked : CJob → List (ℕ × ℕ)
@@ -24,7 +24,7 @@ pub record IsAskedJob (c : CJob) (j : Job) : Type 0 where
   pub limit : j.limit ≡ c.limit
 
 -- two jobs agree in every field
-pub record AreAlike (j k : Job) : Type 0 where
+pub record AreEqualJobs (j k : Job) : Type 0 where
   pub storage : storage_of j ≡ storage_of k
   pub start : j.start ≡ k.start
   pub device : j.device ≡ k.device
@@ -35,7 +35,7 @@ pub record AreAlike (j k : Job) : Type 0 where
   pub limit : j.limit ≡ k.limit
 
 -- two structs of C name the same in every field
-pub record NameAlike (c d : CJob) : Type 0 where
+pub record NameEqualJobs (c d : CJob) : Type 0 where
   pub storage : c.storage.now ≡ d.storage.now
   pub start : c.start ≡ d.start
   pub device : c.device ≡ d.device
@@ -47,11 +47,11 @@ pub record NameAlike (c d : CJob) : Type 0 where
 
 -- a struct of C asks about one job alone, and two that ask about one job name the same
 pub record AskedIsOne : Type 0 where
-  pub job : (c : CJob) (j k : Job) → IsAskedJob c j → IsAskedJob c k → AreAlike j k
-  pub named : (c d : CJob) (j : Job) → IsAskedJob c j → IsAskedJob d j → NameAlike c d
+  pub job : (c : CJob) (j k : Job) → IsAskedJob c j → IsAskedJob c k → AreEqualJobs j k
+  pub named : (c d : CJob) (j : Job) → IsAskedJob c j → IsAskedJob d j → NameEqualJobs c d
 
 -- what was made ready is what C named
-pub record IsReady (c : CJob) (r : Ready) : Type 0 where
+pub record IsReadyJob (c : CJob) (r : ReadyJob) : Type 0 where
   pub storage : bytes_held r.parts.storage ≡ c.storage.now
   pub device : device_number r.parts.device ≡ c.device
   pub mask : r.parts.mask ≡ c.mask

@@ -27,7 +27,7 @@ use Rattle.chanv_c.specs.Why.{verdict_for_c}
 -- ---- the open job
 
 -- this is the open job of the program that C asks about, with the limit that C names
-pub record IsOpenFor (c : CJob) (opened : Job) : Type 0 where
+pub record IsOpenJobFor (c : CJob) (opened : Job) : Type 0 where
   pub job : Job
   pub asked : IsAskedJob c job
   pub is_open : IsOpenJob job opened
@@ -35,13 +35,13 @@ pub record IsOpenFor (c : CJob) (opened : Job) : Type 0 where
 -- more places than the limit are reachable where all is granted
 pub record HasTooManyOpenly (c : CJob) : Type 0 where
   pub opened : Job
-  pub is_open : IsOpenFor c opened
+  pub is_open : IsOpenJobFor c opened
   pub many : HasMoreThan opened c.limit
 
 -- the verdict on the open job, with all that an answer promises
 pub record IsJudgedOpenly (c : CJob) (v : Verdict) : Type 0 where
   pub opened : Job
-  pub is_open : IsOpenFor c opened
+  pub is_open : IsOpenJobFor c opened
   pub answer : IsAnswer opened v
   pub verdict : IsVerdict (open_job is_open.job) v
 
@@ -129,7 +129,7 @@ abbrev pub StandFirst : {X : Type 0} → List X → List X → List X → Type 0
 StandFirst list old new = new ≡ list ++ drop (length list) old
 
 -- each list has room, and there is room for the bytes that are kept
-pub record HaveRoom (n : Listed) (runs : List Extent) (fetched stored areas : List Area)
+pub record HaveRoomForNeeds (n : Listed) (runs : List Extent) (fetched stored areas : List Area)
     (bytes : List ℕ) : Type 0 where
   pub extents : length n.extents ≤ length runs
   pub fetch : length n.fetch ≤ length fetched
@@ -141,7 +141,7 @@ pub record HaveRoom (n : Listed) (runs : List Extent) (fetched stored areas : Li
 
 -- d asks for the program of c over another storage, which is as long and holds these bytes; what c
 -- grants doesn't matter
-pub record IsOver (c : CJob) (copy : List ℕ) (d : CJob) : Type 0 where
+pub record AsksOverCopy (c : CJob) (copy : List ℕ) (d : CJob) : Type 0 where
   pub storage : d.storage.now ≡ copy
   pub same_length : length copy ≡ length c.storage.now
   pub start : d.start ≡ c.start
@@ -177,4 +177,4 @@ pub record HaveTooLittleRoom (c : CJob) (out : CNeeded) (runs : List Extent)
   pub needs : Listed
   pub hang : Option Place
   pub found : AreNeedsForC c needs hang out
-  pub room : HaveRoom needs runs fetched stored areas bytes → ⊥
+  pub room : HaveRoomForNeeds needs runs fetched stored areas bytes → ⊥

@@ -12,7 +12,7 @@ use Rattle.chan_deck.specs.Explanation.{IsExplanationText}
 use Rattle.chanv_c.specs.declared.job.CJob.{CJob}
 use Rattle.chanv_c.specs.declared.text.VerdictText.{VerdictText}
 use Rattle.chanv_c.specs.Job.{IsAskedJob}
-use Rattle.chanv_c.specs.Needs.{IsOpenFor}
+use Rattle.chanv_c.specs.Needs.{IsOpenJobFor}
 use Rattle.chanv_c.specs.declared.codes.TheConstants as codes
 
 -- the verdict on a job, with all that an answer promises, and the text that explains it: of all
@@ -32,7 +32,7 @@ IsText c t = (job : Job) × IsAskedJob c job × IsTextOn job t
 
 -- it is on the open job of the program that C asks about
 abbrev pub IsOpenText : CJob → VerdictText → Type 0
-IsOpenText c t = (opened : Job) × IsOpenFor c opened × IsTextOn opened t
+IsOpenText c t = (opened : Job) × IsOpenJobFor c opened × IsTextOn opened t
 
 -- the number of a verdict in the header
 abbrev pub verdict_code : Verdict → ℕ
@@ -45,6 +45,6 @@ pub record IsWrittenWhole (t : VerdictText) (count : ℕ) (old new : List ℕ) :
   pub stands : new ≡ string_bytes t.text ++ drop (length (string_bytes t.text)) old
 
 -- the text has so many bytes, more than there is room for
-abbrev pub IsTooLong : VerdictText → ℕ → List ℕ → Type 0
-IsTooLong t count buffer =
+abbrev pub IsTextTooLong : VerdictText → ℕ → List ℕ → Type 0
+IsTextTooLong t count buffer =
     (count ≡ length (string_bytes t.text)) × (length buffer < count)

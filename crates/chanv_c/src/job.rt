@@ -5,8 +5,8 @@ ghost use Rattle.ccw_core.specs.Held.{bytes_held};
 ghost use Rattle.chanv_c.specs.Answers.{IsRefusal};
 ghost use Rattle.chan_needs.specs.Remembered.{device_number};
 ghost use Rattle.chan_needs.specs.Listed.{pair};
-ghost use Rattle.chanv_c.specs.Job.{IsAskedJob, IsReady, extents_asked};
-ghost use Rattle.chanv_c.specs.Faults.{HasNoFault, HasNoneBelow, IsFirstFault};
+ghost use Rattle.chanv_c.specs.Job.{IsAskedJob, IsReadyJob, extents_asked};
+ghost use Rattle.chanv_c.specs.Faults.{HasNoFault, HasNoFaultBelow, IsFirstFault};
 
 use crate::refusal::{JobFault, Refusal};
 use ccw_core::{Area, Storage};
@@ -34,7 +34,7 @@ pub struct CJob<'a> {
 
 /// The storage, the device and the mask that C names. Storage is borrowed.
 #[derive(Clone, Copy)]
-struct Parts<'a> {
+struct JobParts<'a> {
     storage: Storage<'a>,
     device: Device,
     mask: FileMask,
@@ -54,11 +54,11 @@ pub(crate) fn device_of(number: u16) -> Option<Device>
 }
 
 /// The storage, the device and the mask, or the first fault of them.
-fn parts_of<'a>(asked: &CJob<'a>) -> Result<Parts<'a>, JobFault>
+fn parts_of<'a>(asked: &CJob<'a>) -> Result<JobParts<'a>, JobFault>
     ensures storage { IfOk result (λ parts. bytes_held parts.storage ≡ asked.now.storage.now) }
     ensures device { IfOk result (λ parts. device_number parts.device ≡ asked.now.device) }
     ensures mask { IfOk result (λ parts. parts.mask ≡ asked.now.mask) }
-    ensures right { OnOk result (HasNoneBelow asked.now 7) }
+    ensures right { OnOk result (HasNoFaultBelow asked.now 7) }
     ensures fault { IfErr result (IsFirstFault asked.now) }
 {
     let Ok(storage) = Storage::new(or_empty(asked.storage)) else {
@@ -70,7 +70,7 @@ fn parts_of<'a>(asked: &CJob<'a>) -> Result<Parts<'a>, JobFault>
     let Some(mask) = FileMask::new(asked.mask) else {
         return Err(JobFault::NotAMask);
     };
-    Ok(Parts {
+    Ok(JobParts {
         storage,
         device,
         mask,
@@ -79,9 +79,9 @@ fn parts_of<'a>(asked: &CJob<'a>) -> Result<Parts<'a>, JobFault>
 
 /// The extents of the file, or their fault.
 fn extents_of(alloc: Global, asked: &CJob<'_>) -> Result<Extents, Refusal>
-    requires { HasNoneBelow asked.now 7 }
+    requires { HasNoFaultBelow asked.now 7 }
     ensures extents { IfOk result (λ extents. extents ≡ extents_asked asked.now) }
-    ensures right { OnOk result (HasNoneBelow asked.now 10) }
+    ensures right { OnOk result (HasNoFaultBelow asked.now 10) }
     ensures refusal { IfErr result (IsRefusal ⊥ asked.now) }
 {
     let Ok(pairs) = pairs_of(alloc, asked.extents) else {
@@ -98,15 +98,15 @@ fn extents_of(alloc: Global, asked: &CJob<'_>) -> Result<Extents, Refusal>
 
 /// All that a job needs, as C names it.
 #[derive(Drop)]
-pub(crate) struct Ready<'a> {
-    parts: Parts<'a>,
+pub(crate) struct ReadyJob<'a> {
+    parts: JobParts<'a>,
     extents: Extents,
     limit: Limit,
 }
 
 /// All that the job needs, or the first fault of what C asks.
-pub(crate) fn make_ready<'a>(alloc: Global, asked: &CJob<'a>) -> Result<Ready<'a>, Refusal>
-    ensures job { IfOk result (IsReady asked.now) }
+pub(crate) fn make_ready<'a>(alloc: Global, asked: &CJob<'a>) -> Result<ReadyJob<'a>, Refusal>
+    ensures job { IfOk result (IsReadyJob asked.now) }
     ensures right { OnOk result (HasNoFault asked.now) }
     ensures refusal { IfErr result (IsRefusal ⊥ asked.now) }
 {
@@ -121,17 +121,17 @@ pub(crate) fn make_ready<'a>(alloc: Global, asked: &CJob<'a>) -> Result<Ready<'a
     if asked.reserved != [0; 4] {
         return Err(Refusal::Wrong(JobFault::ReservedNotZero));
     }
-    Ok(Ready {
+    Ok(ReadyJob {
         parts,
         extents,
         limit,
     })
 }
 
-impl<'a> Ready<'a> {
+impl<'a> ReadyJob<'a> {
     /// The job that C asks about. Nothing is copied.
     pub(crate) fn job<'s>(&'s self, asked: &'s CJob<'s>) -> Job<'s>
-        requires { IsReady asked.now self.now }
+        requires { IsReadyJob asked.now self.now }
         ensures { IsAskedJob asked.now result }
     {
         Job {

@@ -12,8 +12,8 @@ ghost use Rattle.chan_walk.specs.declared.verdict.Verdict as declared;
 ghost use Rattle.chanv_c.specs.Answers.{IsAnswerCode, IsRefusal};
 ghost use Rattle.chanv_c.specs.Job.{IsAskedJob};
 ghost use Rattle.chanv_c.specs.Faults.{HasNoFault};
-ghost use Rattle.chanv_c.specs.Needs.{AreWrittenNeeds, HasTooManyOpenly, HaveRoom};
-ghost use Rattle.chanv_c.specs.Needs.{HaveTooLittleRoom, IsFoundNeeds, IsOver, IsWrittenNo};
+ghost use Rattle.chanv_c.specs.Needs.{AreWrittenNeeds, HasTooManyOpenly, HaveRoomForNeeds};
+ghost use Rattle.chanv_c.specs.Needs.{HaveTooLittleRoom, IsFoundNeeds, AsksOverCopy, IsWrittenNo};
 ghost use Rattle.chanv_c.specs.Needs.{StandFirst, without_needs, needs_for_c};
 ghost use Rattle.chanv_c.specs.declared.job.CJob as asked;
 ghost use Rattle.chanv_c.specs.declared.codes.TheConstants.{MEMORY, NO, NO_ROOM, YES};
@@ -85,11 +85,11 @@ pub extern "C" fn needs_by_copy(
     keep: &mut [Area],
     kept: &mut [u8],
 ) -> u32
-    ensures yes { result ≡ YES → (c : asked.CJob) × IsOver job.now copy.new c
+    ensures yes { result ≡ YES → (c : asked.CJob) × AsksOverCopy job.now copy.new c
         × AreWrittenNeeds c out.new extents.old extents.new fetch.old fetch.new store.old store.new
         keep.old keep.new kept.old kept.new }
     ensures no { result ≡ NO → IsWrittenNo job.now out.new }
-    ensures room { result ≡ NO_ROOM → (c : asked.CJob) × IsOver job.now copy.new c
+    ensures room { result ≡ NO_ROOM → (c : asked.CJob) × AsksOverCopy job.now copy.new c
         × HaveTooLittleRoom c out.new extents.old fetch.old store.old keep.old kept.old }
     ensures left { result ≢ YES → (extents.new ≡ extents.old) × (fetch.new ≡ fetch.old)
         × (store.new ≡ store.old) × (keep.new ≡ keep.old) × (kept.new ≡ kept.old) }
@@ -270,7 +270,7 @@ fn have_room(
 ) -> bool
     requires { kept_len ≡ total_len needs.now.keep.items }
     ensures { IsTrue result
-        ↔ HaveRoom (listed needs.now) extents.now fetch.now store.now keep.now kept.now }
+        ↔ HaveRoomForNeeds (listed needs.now) extents.now fetch.now store.now keep.now kept.now }
 {
     needs.extents.len() <= extents.len()
         && needs.fetch.len() <= fetch.len()

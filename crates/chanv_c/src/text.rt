@@ -7,7 +7,7 @@ ghost use Rattle.chanv_c.specs.Answers.{HasTooMany, IsAnswerCode, IsRefusal};
 ghost use Rattle.chanv_c.specs.Faults.{HasNoFault};
 ghost use Rattle.chanv_c.specs.declared.text.VerdictText as declared;
 ghost use Rattle.chanv_c.specs.Needs.{HasTooManyOpenly};
-ghost use Rattle.chanv_c.specs.Text.{IsOpenText, IsText, IsTextOn, IsWrittenWhole, IsTooLong};
+ghost use Rattle.chanv_c.specs.Text.{IsOpenText, IsText, IsTextOn, IsWrittenWhole, IsTextTooLong};
 ghost use Rattle.chanv_c.specs.Text.{verdict_code};
 ghost use Rattle.chanv_c.specs.declared.codes.TheConstants.{NO, NO_ROOM};
 
@@ -41,7 +41,7 @@ pub extern "C" fn chanv_text(
     ensures written { result ≤ NO → (t : declared.VerdictText) × IsText job.now t
         × (result ≡ verdict_code t.verdict) × IsWrittenWhole t len.new buffer.old buffer.new }
     ensures room { result ≡ NO_ROOM → (t : declared.VerdictText) × IsText job.now t
-        × IsTooLong t len.new buffer.old }
+        × IsTextTooLong t len.new buffer.old }
     ensures kept { NO < result → buffer.new ≡ buffer.old }
     ensures number { (extent : ℕ) × IsAnswerCode (HasTooMany job.now) job.now result extent }
     ensures no_len { NO < result → result ≢ NO_ROOM → len.new ≡ 0 }
@@ -67,7 +67,7 @@ pub extern "C" fn chanv_open_text(
     ensures written { result ≤ NO → (t : declared.VerdictText) × IsOpenText job.now t
         × (result ≡ verdict_code t.verdict) × IsWrittenWhole t len.new buffer.old buffer.new }
     ensures room { result ≡ NO_ROOM → (t : declared.VerdictText) × IsOpenText job.now t
-        × IsTooLong t len.new buffer.old }
+        × IsTextTooLong t len.new buffer.old }
     ensures kept { NO < result → buffer.new ≡ buffer.old }
     ensures number { (extent : ℕ) × IsAnswerCode (HasTooManyOpenly job.now) job.now result extent }
     ensures no_len { NO < result → result ≢ NO_ROOM → len.new ≡ 0 }
@@ -85,7 +85,7 @@ pub extern "C" fn chanv_open_text(
 fn write_text(found: &VerdictText, buffer: &mut [u8], len: &mut usize) -> u32
     ensures written { result ≤ NO → (result ≡ verdict_code found.now.verdict)
         × IsWrittenWhole found.now len.new buffer.old buffer.new }
-    ensures room { result ≡ NO_ROOM → IsTooLong found.now len.new buffer.old }
+    ensures room { result ≡ NO_ROOM → IsTextTooLong found.now len.new buffer.old }
     ensures kept { NO < result → buffer.new ≡ buffer.old }
     ensures codes { (result ≤ NO) ⊎ (result ≡ NO_ROOM) }
 {

@@ -2,7 +2,7 @@
 
 ghost use Rattle.std.specs.Prelude.{◌≡◌, ◌≢◌, ◌<◌, IfErr, IfOk, OnOk};
 ghost use Rattle.chan_walk.specs.declared.verdict.Verdict.TheVariants.{Yes};
-ghost use Rattle.chanv_c.specs.Answers.{HasTooMany, IsDenied, IsJudged, IsAnswerCode, IsRefusal};
+ghost use Rattle.chanv_c.specs.Answers.{HasTooMany, IsJudgedNo, IsJudged, IsAnswerCode, IsRefusal};
 ghost use Rattle.chanv_c.specs.Faults.{HasNoFault};
 ghost use Rattle.chanv_c.specs.declared.codes.TheConstants.{YES, NO, STORAGE_TOO_LARGE, NO_ROOM};
 
@@ -27,7 +27,7 @@ pub struct CVerdict {
 #[unsafe(no_mangle)]
 pub extern "C" fn chanv_verify(alloc: Global, job: &CJob<'_>, out: &mut CVerdict) -> u32
     ensures yes { result ≡ YES → IsJudged job.now Yes }
-    ensures no { result ≡ NO → IsDenied job.now out.new.address out.new.reason }
+    ensures no { result ≡ NO → IsJudgedNo job.now out.new.address out.new.reason }
     ensures number { IsAnswerCode (HasTooMany job.now) job.now result out.new.extent }
     ensures room { result ≢ NO_ROOM }
     ensures no_place { result ≢ NO → (out.new.address ≡ 0) × (out.new.reason ≡ 0) }

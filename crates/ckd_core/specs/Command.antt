@@ -11,17 +11,17 @@ use Rattle.ckd_core.specs.declared.command.MaskClass.TheVariants.{SeekHead, Reca
 use Rattle.ckd_core.specs.declared.command.MaskClass.TheVariants.{WriteFormat, WriteUpdate, SetMask}
 
 -- an entry of the table; the name is ASCII text
-pub record Entry : Type 0 where
+pub record CommandEntry : Type 0 where
   pub code : ℕ
   pub name : List ℕ
   pub kind : Kind
   pub class : MaskClass
 
-abbrev entry : ℕ → List ℕ → Kind → MaskClass → Entry
+abbrev entry : ℕ → List ℕ → Kind → MaskClass → CommandEntry
 entry code name kind class = record { code = code; name = name; kind = kind; class = class }
 
 -- six control commands, and Sense
-abbrev pub control_commands : List Entry
+abbrev pub control_commands : List CommandEntry
 control_commands =
     entry 0x03 (codes "no-operation") Idle Plain ∷
     entry 0x07 (codes "seek") Outward Seek ∷
@@ -33,7 +33,7 @@ control_commands =
     []
 
 -- seven searches, each also with the multi-track bit
-abbrev pub search_commands : List Entry
+abbrev pub search_commands : List CommandEntry
 search_commands =
     entry 0x39 (codes "search-home-address-equal") Search Plain ∷
     entry 0xB9 (codes "search-home-address-equal-mt") Search Plain ∷
@@ -52,7 +52,7 @@ search_commands =
     []
 
 -- six reads, each also with the multi-track bit
-abbrev pub read_commands : List Entry
+abbrev pub read_commands : List CommandEntry
 read_commands =
     entry 0x1A (codes "read-home-address") Inward Plain ∷
     entry 0x9A (codes "read-home-address-mt") Inward Plain ∷
@@ -69,7 +69,7 @@ read_commands =
     []
 
 -- seven writes
-abbrev pub write_commands : List Entry
+abbrev pub write_commands : List CommandEntry
 write_commands =
     entry 0x19 (codes "write-home-address") Outward WriteHome ∷
     entry 0x15 (codes "write-record-zero") Outward WriteHome ∷
@@ -81,16 +81,16 @@ write_commands =
     []
 
 -- forty codes: six control, one sense, fourteen search, twelve read, seven write
-unfoldable pub table : List Entry
+unfoldable pub table : List CommandEntry
 table = control_commands ++ search_commands ++ read_commands ++ write_commands
 
 -- the entry with this code, where the list has one
-abbrev pub find_code : ℕ → List Entry → Option Entry
+abbrev pub find_code : ℕ → List CommandEntry → Option CommandEntry
 find_code code [] = None
 find_code code (e ∷ es) = if e.code == code then Some e else find_code code es
 
 -- the table's entry for a command code
-unfoldable pub lookup : ℕ → Option Entry
+unfoldable pub lookup : ℕ → Option CommandEntry
 lookup code = find_code code table
 
 -- the three seeks
@@ -130,7 +130,7 @@ class_sets_mask WriteFormat = false
 class_sets_mask WriteUpdate = false
 
 -- whether the class of a command that was looked up passes a test; a code of no command passes none
-abbrev pub class_passes : (MaskClass → Bool) → Option Entry → Bool
+abbrev pub class_passes : (MaskClass → Bool) → Option CommandEntry → Bool
 class_passes test None = false
 class_passes test (Some e) = test e.class
 

@@ -3,15 +3,15 @@
 use Rattle.std.specs.Prelude.{ℕ, ◌==◌, List, [], ◌∷◌, codes, Option, Some, None, if◌then◌else◌}
 
 -- a code with its name, which is ASCII text
-pub record Named : Type 0 where
+pub record NamedCode : Type 0 where
   pub code : ℕ
   pub name : List ℕ
 
-abbrev further : ℕ → List ℕ → Named
+abbrev further : ℕ → List ℕ → NamedCode
 further code name = record { code = code; name = name }
 
 -- thirty-six codes; `-mt` stands behind a name where the multi-track bit is on
-abbrev pub further_codes : List Named
+abbrev pub further_codes : List NamedCode
 further_codes =
     further 0x02 (codes "read-ipl") ∷
     further 0x0F (codes "space-count") ∷
@@ -52,7 +52,7 @@ further_codes =
     []
 
 -- the name of a code, where the list has it
-abbrev pub find_name : ℕ → List Named → Option (List ℕ)
+abbrev pub find_name : ℕ → List NamedCode → Option (List ℕ)
 find_name code [] = None
 find_name code (n ∷ ns) = if n.code == code then Some n.name else find_name code ns
 

@@ -8,7 +8,7 @@ use Rattle.ckd_core.specs.declared.command.MaskClass.{MaskClass}
 use Rattle.ckd_core.specs.declared.command.MaskClass.TheVariants.{Plain, Seek, SeekCylinder}
 use Rattle.ckd_core.specs.declared.command.MaskClass.TheVariants.{SeekHead, Recalibrate, WriteHome}
 use Rattle.ckd_core.specs.declared.command.MaskClass.TheVariants.{WriteFormat, WriteUpdate, SetMask}
-use Rattle.ckd_core.specs.Command.{Entry, class_passes, lookup}
+use Rattle.ckd_core.specs.Command.{CommandEntry, class_passes, lookup}
 
 -- no bit but those of writes and seeks
 abbrev pub is_mask : ℕ → Bool
@@ -67,13 +67,13 @@ abbrev pub permits_beyond : ℕ → ℕ → MaskClass → Bool
 permits_beyond byte mask class = inhibits_class mask class && not (inhibits_class byte class)
 
 -- the first command of which the class passes a test, of those with n codes in a row
-abbrev pub first_command : (MaskClass → Bool) → ℕ → ℕ → Option Entry
+abbrev pub first_command : (MaskClass → Bool) → ℕ → ℕ → Option CommandEntry
 first_command test code zero = None
 first_command test code (suc n) =
     if class_passes test (lookup code) then lookup code else first_command test (code + 1) n
 
 -- the command with the least code that the mask inhibits and the byte doesn't
-unfoldable pub least_permitted : ℕ → ℕ → Option Entry
+unfoldable pub least_permitted : ℕ → ℕ → Option CommandEntry
 least_permitted byte mask = first_command (permits_beyond byte mask) 0 256
 
 -- strictness, said of every class: a byte is at least as strict as a mask exactly where it is a

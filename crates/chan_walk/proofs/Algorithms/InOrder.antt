@@ -141,12 +141,12 @@ one_at a m p w =
 -- ---- the places of all entries
 
 -- an entry tells of the place
-record IsWrittenExplanation (es : List (ℕ × ℕ)) (p : Place) : Type 0 where
+record HasEntryFor (es : List (ℕ × ℕ)) (p : Place) : Type 0 where
   marks : ℕ
   entry : Has es (p.address, marks)
   set : bit_at marks (way_of p) ≡ 1
 
-told : (es : List (ℕ × ℕ)) (p : Place) → Has (places_of es) p → IsWrittenExplanation es p
+told : (es : List (ℕ × ℕ)) (p : Place) → Has (places_of es) p → HasEntryFor es p
 told [] p h = absurd h
 told (e ∷ es) p h = search (rules, has_cases, at_one, told es p)
 

@@ -1,9 +1,9 @@
 -- What begins at a place, by the command that was looked up.
 use Rattle.chan_walk.proofs.Names.{begins_recalibrate, begins_seek, begins_set_mask, begun, Bool, class_is_seek, class_passes, class_recalibrates, class_sets_mask, Fields, if◌then◌else◌, is_fresh, is_seek, lookup, MaskClass, None, Option, Place, recalibrates, refl, rules, sets_mask, true, ◌&&◌, ◌≡◌}
-use Rattle.ckd_core.specs.Command.{Entry as Command}
+use Rattle.ckd_core.specs.Command.{CommandEntry}
 
 -- a test that only a fresh place can pass
-fresh_passes : (b : Bool) (test : MaskClass → Bool) (o : Option Command) → class_passes test (if b then o else None) ≡ (b && class_passes test o)
+fresh_passes : (b : Bool) (test : MaskClass → Bool) (o : Option CommandEntry) → class_passes test (if b then o else None) ≡ (b && class_passes test o)
 fresh_passes b test o = search rules
 
 pub begins_seek-begun : (p : Place) (c : Fields) → class_passes class_is_seek (begun p c) ≡ begins_seek p c

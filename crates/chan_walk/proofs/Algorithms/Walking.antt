@@ -95,7 +95,7 @@ reaches : (j : Job) (p q : Place) → IsReachable j p → Follows j p q → IsRe
 reaches j p q r f = (p ∷ r.0, (r.1, f.0, f.1))
 
 -- what follows the place of index i
-pub record ChainLeads (j : Job) (ps : List Place) (i : ℕ) (n : Next) : Type 0 where
+pub record AreNextAt (j : Job) (ps : List Place) (i : ℕ) (n : Next) : Type 0 where
   pub from : Place
   pub there : slice_get ps i ≡ Some from
   pub each : (q : Place) → IsAmong n q ↔ Follows j from q
@@ -108,27 +108,27 @@ are_next j ls i l n are e same = subst (AreSuccessors j l.place) (sym same) (are
 
 -- what follows the place of a look is what the look shows
 pub leads_from_look : (j : Job) (ls : List Seen) (i : ℕ) (l : Seen) (n : Next)
-    → AreLooks j ls → slice_get ls i ≡ Some l → n ≡ l.next → ChainLeads j (places_of_looks ls) i n
+    → AreLooks j ls → slice_get ls i ≡ Some l → n ≡ l.next → AreNextAt j (places_of_looks ls) i n
 leads_from_look j ls i l n are e same = search (rules, place_there, follows_exactly, are_next)
 
-from_next : (j : Job) (l : ℕ) (n : Next) (ps : List Place) (i : ℕ) → IsWalked j l ps i → ChainLeads j ps i n → (q : Place) → n.next ≡ Some q → IsReachable j q
+from_next : (j : Job) (l : ℕ) (n : Next) (ps : List Place) (i : ℕ) → IsWalked j l ps i → AreNextAt j ps i n → (q : Place) → n.next ≡ Some q → IsReachable j q
 from_next j l n ps i w s q e = reaches j s.from q (w.only s.from (has_at ps i s.from s.there)) ((s.each q).0 (inl e))
 
-from_skip : (j : Job) (l : ℕ) (n : Next) (ps : List Place) (i : ℕ) → IsWalked j l ps i → ChainLeads j ps i n → (q : Place) → n.skip ≡ Some q → IsReachable j q
+from_skip : (j : Job) (l : ℕ) (n : Next) (ps : List Place) (i : ℕ) → IsWalked j l ps i → AreNextAt j ps i n → (q : Place) → n.skip ≡ Some q → IsReachable j q
 from_skip j l n ps i w s q e = reaches j s.from q (w.only s.from (has_at ps i s.from s.there)) ((s.each q).0 (inr e))
 
-pub next_overflows : (j : Job) (l : ℕ) (n : Next) (ps : List Place) (i : ℕ) → IsWalked j l ps i → ChainLeads j ps i n → HasNoRoomFor l n.next ps
+pub next_overflows : (j : Job) (l : ℕ) (n : Next) (ps : List Place) (i : ℕ) → IsWalked j l ps i → AreNextAt j ps i n → HasNoRoomFor l n.next ps
     → HasMoreThan j l
 next_overflows j l n ps i w s b = walked_overflows j l n.next ps i (from_next j l n ps i w s) b w
 
 pub skip_overflows : (j : Job) (l : ℕ) (n : Next) (from : ℕ) (ps qs : List Place) (fs gs : List ℕ) (i : ℕ)
-    → IsWalked j l ps i → ChainLeads j ps i n → AddsPlace l n.next from ps qs fs gs → HasNoRoomFor l n.skip qs → HasMoreThan j l
+    → IsWalked j l ps i → AreNextAt j ps i n → AddsPlace l n.next from ps qs fs gs → HasNoRoomFor l n.skip qs → HasMoreThan j l
 skip_overflows j l n from ps qs fs gs i w s a b =
     let g = walked_adds j l n.next from ps qs fs gs i (from_next j l n ps i w s) a w in
     walked_overflows j l n.skip qs i (from_skip j l n ps i w s) b g.walked
 
 pub walked_on : (j : Job) (l : ℕ) (n : Next) (from : ℕ) (ps qs rs : List Place) (fs gs hs : List ℕ) (i : ℕ) → IsWalked j l ps i
-    → i < length ps → ChainLeads j ps i n → AddsPlace l n.next from ps qs fs gs → AddsPlace l n.skip from qs rs gs hs → IsWalked j l rs (i + 1)
+    → i < length ps → AreNextAt j ps i n → AddsPlace l n.next from ps qs fs gs → AddsPlace l n.skip from qs rs gs hs → IsWalked j l rs (i + 1)
 walked_on j l n from ps qs rs fs gs hs i w h s a b = record {
   few = z.walked.few;
   within = omega (arith, y.longer, z.longer);

@@ -3,7 +3,7 @@ use Rattle.chan_walk.proofs.Names.{[], AllByRecursion, and_from, ap, AreBytes, A
 use Rattle.std.proofs.lemmas.Bool.{le-leb}
 use Rattle.chan_walk.specs.Alarm.{EachPathIsRun}
 use Rattle.chan_walk.proofs.Theory.Faults.{IsGood, clear_check, clear_good}
-use Rattle.chan_walk.proofs.Theory.Follows.{Follows, by_transfer, by_data, by_command, by_skip, follows}
+use Rattle.chan_walk.proofs.Theory.Follows.{FollowsBy, by_transfer, by_data, by_command, by_skip, follows}
 use Rattle.chan_walk.proofs.Machine.Gathering.{Advance, advance, transfer_on, begin}
 use Rattle.chan_walk.proofs.Machine.Invariant.{chained_out}
 use Rattle.chan_walk.proofs.Machine.Quiet.{full_count, IsFew, kind_at, bytes_at, Left, seek_at, carry_out}
@@ -20,13 +20,13 @@ module _ (j : Job) where
   Taking p (Some x) = (p.entered ≡ ChainOut) × (l : List ℕ) × IsGathered (storage_of j) l p x
 
   -- a seek under way at p, whose chain is known
-  abbrev Comes : Place → Gathered → Type 0
-  Comes p None = Unit {0}
-  Comes p (Some x) =
+  abbrev SeekIsUnderWay : Place → Gathered → Type 0
+  SeekIsUnderWay p None = Unit {0}
+  SeekIsUnderWay p (Some x) =
       (kind_at j p ≡ Outward) × (length x < 6) × (l : List ℕ) × (before : List ℕ)
       × ((m : ℕ) → m ≤ (ccw_of j p).count → Advance (storage_of j) l p (ccw_of j p) x m before)
 
-  few_of : (p : Place) (g : Gathered) → Comes p g → IsFew g
+  few_of : (p : Place) (g : Gathered) → SeekIsUnderWay p g → IsFew g
   few_of p g h = search rules
 
   few_read : (p : Place) (x : List ℕ) (l : List ℕ) → IsGathered (storage_of j) l p x → length x < 6
@@ -43,17 +43,17 @@ module _ (j : Job) where
       go true g tk = omega arith
       go false g tk = old g tk
 
-  comes_at : (p : Place) (g : Gathered) → Taking p g → IsClear j p → is_transfer (ccw_of j p) ≡ false → Comes p (under_way p (ccw_of j p) g)
+  comes_at : (p : Place) (g : Gathered) → Taking p g → IsClear j p → is_transfer (ccw_of j p) ≡ false → SeekIsUnderWay p (under_way p (ccw_of j p) g)
   comes_at p g tk f t = come (begins_seek p (ccw_of j p)) refl g tk
     where
       good : IsGood j p (ccw_of j p) f.0
       good = clear_good j p f t
 
-      old : (g : Gathered) → Taking p g → Comes p g
+      old : (g : Gathered) → Taking p g → SeekIsUnderWay p g
       old None u = tt
       old (Some x) u = (ap (λ e. kind_of e (ccw_of j p)) u.0, few_read p x u.1 u.2, u.1, u.2.before, λ m le. advance (storage_of j) u.1 p x m u.2 t le)
 
-      new : begins_seek p (ccw_of j p) ≡ true → (x : Option (List ℕ)) → HasArgument (storage_of j) p.address x → is_none x ≡ false → Comes p (Some [])
+      new : begins_seek p (ccw_of j p) ≡ true → (x : Option (List ℕ)) → HasArgument (storage_of j) p.address x → is_none x ≡ false → SeekIsUnderWay p (Some [])
       new e None h miss = absurd (cc)
       new e (Some x) h miss = (
         fresh_out p (ccw_of j p) e,
@@ -63,17 +63,17 @@ module _ (j : Job) where
         λ m le. advance (storage_of j) h.0 p [] m (begin (storage_of j) h.0 p h.1) t le,
       )
 
-      come : (b : Bool) → begins_seek p (ccw_of j p) ≡ b → (g : Gathered) → Taking p g → Comes p (if b then Some [] else g)
+      come : (b : Bool) → begins_seek p (ccw_of j p) ≡ b → (g : Gathered) → Taking p g → SeekIsUnderWay p (if b then Some [] else g)
       come true e g u = new e f.0 f.1 (good.argued e)
       come false e g u = old g u
 
   -- what a seek goes on with after p, if it does
-  abbrev Onward : Place → Gathered → Type 0
-  Onward p None = Unit {0}
-  Onward p (Some x) =
+  abbrev SeekGoesOn : Place → Gathered → Type 0
+  SeekGoesOn p None = Unit {0}
+  SeekGoesOn p (Some x) =
       (kind_at j p ≡ Outward) × (chains_data (ccw_of j p) ≡ true) × (l : List ℕ) × IsGathered (storage_of j) l (straight_to (p.address + 8) ChainOut) x
 
-  onward_of : (p : Place) (g : Gathered) (es : List Event) (after : Gathered) → Comes p g → Left j (ccw_of j p) (bytes_at j p) g es after → Onward p after
+  onward_of : (p : Place) (g : Gathered) (es : List Event) (g' : Gathered) → SeekIsUnderWay p g → Left j (ccw_of j p) (bytes_at j p) g es g' → SeekGoesOn p g'
   onward_of p g es after h left = search (rules, bytes_at, full_count, Advance)
 
   -- where data chaining is off, no seek goes on
@@ -89,7 +89,7 @@ module _ (j : Job) where
     taking : Taking q after
 
   can_step : AreBytes (storage_of j) → (y : ℕ) (p : Place) (g : Gathered) {q : Place}
-      → Taking p g → IsClear j p → Follows p (ccw_of j p) (kind_at j p) q → CanStep y p g q
+      → Taking p g → IsClear j p → FollowsBy p (ccw_of j p) (kind_at j p) q → CanStep y p g q
   can_step bytes y p g tk f (by_transfer t) =
       record { es = []; after = g; step = transferred (clear_check j p f) t; quiet = tt; taking = carry g tk }
     where
@@ -109,7 +109,7 @@ module _ (j : Job) where
       whole Outward h = refl
       whole Search h = refl
 
-      carry : (g : Gathered) → Onward p g → Taking (straight_to (p.address + 8) e) g
+      carry : (g : Gathered) → SeekGoesOn p g → Taking (straight_to (p.address + 8) e) g
       carry None u = tt
       carry (Some x) u =
           let same = chained_out (kind_at j p) u.0 ch in

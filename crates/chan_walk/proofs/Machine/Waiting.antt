@@ -1,7 +1,7 @@
 -- What others do while a program waits leaves all that a yes rests on.
 use Rattle.chan_walk.proofs.Names.{extents_of, has_cylinder, IsGuarded, IsSameIn, Job, Moment, subst, sym, true, ◌∙◌, ◌≡◌}
 use Rattle.chan_walk.specs.Runs.{Waits}
-use Rattle.chan_walk.proofs.Machine.Invariant.{Invariant, IsKept, IsStrict}
+use Rattle.chan_walk.proofs.Machine.Invariant.{Invariant, IsStageKept, IsStrict}
 
 -- a program waits, and what is guarded stays
 abbrev pub WaitsSpared : Job → Moment → Moment → Type 0
@@ -13,5 +13,5 @@ waits_kept j m n w k = record {
   same = λ b g. w.1.same b g ∙ k.same b g;
   inside = subst (λ y. has_cylinder (extents_of j) y ≡ true) (sym w.0.arm) k.inside;
   strict = subst (IsStrict j) (sym w.0.mask) k.strict;
-  stage = subst (IsKept j) (sym w.0.stage) k.stage;
+  stage = subst (IsStageKept j) (sym w.0.stage) k.stage;
 }

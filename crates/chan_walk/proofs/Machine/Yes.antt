@@ -7,10 +7,10 @@ use Rattle.chan_walk.specs.Verdict.{MayStoreOver}
 use Rattle.chan_walk.proofs.Theory.Checks.{check_stands}
 use Rattle.chan_walk.proofs.Theory.Commands.{seek_is_outward}
 use Rattle.chan_walk.proofs.Theory.Faults.{IsGood, clear_check, clear_good, yes_clear}
-use Rattle.chan_walk.proofs.Theory.Follows.{Follows, by_transfer, succeeds}
+use Rattle.chan_walk.proofs.Theory.Follows.{FollowsBy, by_transfer, succeeds}
 use Rattle.chan_walk.proofs.Machine.Gathering.{advance, transfer_on, begin}
-use Rattle.chan_walk.proofs.Machine.Invariant.{Under, IsKept, Same, Invariant, Coming, Comes, Here, Stepped, carried_ok}
-use Rattle.chan_walk.proofs.Machine.Storing.{StoresAt, step_only}
+use Rattle.chan_walk.proofs.Machine.Invariant.{Under, IsStageKept, Same, Invariant, Coming, SeekComes, Here, Stepped, carried_ok}
+use Rattle.chan_walk.proofs.Machine.Storing.{CcwStoresAt, step_only}
 use Rattle.chan_walk.proofs.Machine.Waiting.{WaitsSpared, waits_kept}
 use Rattle.chan_walk.proofs.Theory.Lists.{all_map}
 use Rattle.chan_walk.proofs.Theory.Masks.{strict_as_itself}
@@ -24,10 +24,10 @@ module _ (j : Job) (v : IsVerdict j Yes) where
   clear_at : (p : Place) → IsReachable j p → IsClear j p
   clear_at = yes_clear j v
 
-  pub onward : (p q : Place) → IsReachable j p → Follows p (ccw_of j p) (kind_of p.entered (ccw_of j p)) q → IsReachable j q
+  pub onward : (p q : Place) → IsReachable j p → FollowsBy p (ccw_of j p) (kind_of p.entered (ccw_of j p)) q → IsReachable j q
   onward p q r f = (p ∷ r.0, (r.1, clear_at p r, succeeds _ _ _ _ f))
 
-  apart_at : (P : ℕ → Type 0) → (MayStoreOver j P → ⊥) → (p : Place) → IsReachable j p → (b : ℕ) → P b → StoresAt p (ccw_of j p) b → ⊥
+  apart_at : (P : ℕ → Type 0) → (MayStoreOver j P → ⊥) → (p : Place) → IsReachable j p → (b : ℕ) → P b → CcwStoresAt p (ccw_of j p) b → ⊥
   apart_at P never p r b h u = never (p, r, record { stores = u.0; at = b; from = u.1; below = u.2; holds = h })
 
   pub no_change : MayStoreOver j (IsGuarded j) → ⊥
@@ -59,7 +59,7 @@ module _ (j : Job) (v : IsVerdict j Yes) where
       good : IsGood j p (ccw_of j p) f.0
       good = clear_good j p f t
 
-      old : (g : Gathered) → Under j p g → Comes j p (ccw_of j p) g
+      old : (g : Gathered) → Under j p g → SeekComes j p (ccw_of j p) g
       old None u = tt
       old (Some x) u = record {
         l = u.1;
@@ -87,7 +87,7 @@ module _ (j : Job) (v : IsVerdict j Yes) where
         outward = fresh_out p (ccw_of j p) e;
       }
 
-      come : (b : Bool) (g : Gathered) → Under j p g → begins_seek p (ccw_of j p) ≡ b → Comes j p (ccw_of j p) (if b then Some [] else g)
+      come : (b : Bool) (g : Gathered) → Under j p g → begins_seek p (ccw_of j p) ≡ b → SeekComes j p (ccw_of j p) (if b then Some [] else g)
       come true g u e = new e f.0 f.1 (good.argued e) (good.allowed e)
       come false g u e = old g u
 
@@ -139,7 +139,7 @@ module _ (j : Job) (v : IsVerdict j Yes) where
       let o = step_only w in
       record {
         same_length = o.same_length;
-        same = λ b h. o.same b (λ u. apart_at P never p k.stage.0 b h (subst (λ c. StoresAt p c b) (ccw_kept s p k.same k.stage.0) u));
+        same = λ b h. o.same b (λ u. apart_at P never p k.stage.0 b h (subst (λ c. CcwStoresAt p c b) (ccw_kept s p k.same k.stage.0) u));
       }
   step_spares P never s y f Ended es t y' f' st w k = absurd w
   step_spares P never s y f (Checked r) es t y' f' st w k = absurd w
@@ -163,7 +163,7 @@ module _ (j : Job) (v : IsVerdict j Yes) where
     same = λ b g. ap (λ z. byte z b) r.storage;
     inside = r.arm;
     strict = λ h. subst (λ z. is_at_least z j.mask ≡ true) (sym r.mask) (strict_as_itself j.mask h);
-    stage = subst (λ z. IsKept j z) (sym r.stage) (([], refl), tt);
+    stage = subst (λ z. IsStageKept j z) (sym r.stage) (([], refl), tt);
   })
 
   next_ok : (m n : Moment) → Steps m n ⊎ WaitsSpared j m n → IsOk m → IsOk n
@@ -180,14 +180,14 @@ module _ (j : Job) (v : IsVerdict j Yes) where
       → (ms : List Moment) → IsSpared j ms → AllByRecursion P ms
   all_kept P f ms r = all_map IsOk P (λ m k. f m k.kept) ms (each_ok ms r)
 
-  unchecked : (st : Stage) → IsKept j st → MeetsNoProgramCheck st
+  unchecked : (st : Stage) → IsStageKept j st → MeetsNoProgramCheck st
   unchecked st k = search rules
 
   is_safe : HasMask j → (m : Moment) → IsOk m → IsSafeMoment j m
   is_safe h m k = record { unchecked = unchecked m.stage k.kept.stage; inside = k.kept.inside; strict = k.kept.strict h; events = k.safe }
 
   -- each byte that a run uses is guarded
-  used_at : (s : List ℕ) (st : Stage) (b : ℕ) → length s ≡ length (storage_of j) → IsKept j st → UsesAt s st b → IsGuarded j b
+  used_at : (s : List ℕ) (st : Stage) (b : ℕ) → length s ≡ length (storage_of j) → IsStageKept j st → UsesAt s st b → IsGuarded j b
   used_at s st b n k u = search rules
 
   in_ccw_guarded : (ms : List Moment) (b : ℕ) → AllByRecursion IsOk ms → UsesInCcw ms b → IsGuarded j b
@@ -203,13 +203,13 @@ module _ (j : Job) (v : IsVerdict j Yes) where
   pub used_guarded : (ms : List Moment) (b : ℕ) → AllByRecursion IsOk ms → Uses ms b → IsGuarded j b
   used_guarded ms b k h = search (rules, in_ccw_guarded, in_argument_guarded)
 
-  at_reachable : (st : Stage) → IsKept j st → IsAtReachable j st
+  at_reachable : (st : Stage) → IsStageKept j st → IsAtReachable j st
   at_reachable st k = search rules
 
   part_of : (p : Place) (g : Gathered) → Under j p g → GathersPart j (At p g)
   part_of p g u = search rules
 
-  gathers : (st : Stage) → IsKept j st → GathersPart j st
+  gathers : (st : Stage) → IsStageKept j st → GathersPart j st
   gathers st k = search (rules, part_of)
 
 pub guarded_stays : GuardedStays

@@ -4,8 +4,8 @@ use Rattle.chan_walk.proofs.Names.{[], AllByRecursion, Bool, cases_Bool, ccw, co
 pub cond_none : (b : Bool) (r : Reason) (o : Option Reason) → cond b (Some r) o ≡ None → (b ≡ false) × (o ≡ None)
 cond_none b r o h = search rules
 
-pub marks_or_none : (a b : Option Reason) → option_or a b ≡ None → (a ≡ None) × (b ≡ None)
-marks_or_none a b h = search rules
+pub both_none : (a b : Option Reason) → option_or a b ≡ None → (a ≡ None) × (b ≡ None)
+both_none a b h = search rules
 
 or_some : (a b : Option Reason) (r : Reason) → option_or a b ≡ Some r → (a ≡ Some r) ⊎ ((a ≡ None) × (b ≡ Some r))
 or_some a b r h = search rules

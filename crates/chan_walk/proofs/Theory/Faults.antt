@@ -2,7 +2,7 @@
 use Rattle.chan_walk.proofs.Names.{ap, AreClear, begins_recalibrate, begins_seek, begins_set_mask, Bool, byte, ccw_of, cond-false, covered, extents_of, false, fault_with, fetch_of, Fields, goes_in, goes_out, has_cylinder, HasFault, inhibits, inl, is_at_least, is_fresh, is_known, is_none, is_refused, is_transfer, IsClear, IsVerdict, Job, kind_of, List, None, not, not-false, Option, Place, program_check, Reason, refl, rules, skips, Some, Stands, storage_of, store_of, sym, true, Yes, ℕ, ◌&&◌, ◌∙◌, ◌≡◌}
 use Rattle.std.proofs.lemmas.Bool.{or_parts}
 use Rattle.chan_walk.proofs.Theory.Chains.{argument_exists, argument_unique}
-use Rattle.chan_walk.proofs.Theory.Checks.{cond_none, marks_or_none, check_stands}
+use Rattle.chan_walk.proofs.Theory.Checks.{cond_none, both_none, check_stands}
 
 -- where the first of two tests is true, a fault that doesn't apply says something of the second
 pub then_false : (a b : Bool) → (a && b) ≡ false → a ≡ true → b ≡ false
@@ -29,10 +29,10 @@ fetches_from : (a b : Bool) → a ≡ false → b ≡ true → (not a && b) ≡ 
 fetches_from a b e f = search rules
 
 pub clear_check : (j : Job) (p : Place) → IsClear j p → program_check (storage_of j) p ≡ None
-clear_check j p f = (marks_or_none _ _ f.2).0
+clear_check j p f = (both_none _ _ f.2).0
 
 pub clear_good : (j : Job) (p : Place) (f : IsClear j p) → is_transfer (ccw_of j p) ≡ false → IsGood j p (ccw_of j p) f.0
-clear_good j p f t = search (rules, marks_or_none, cond_none, cond-false, or_parts, then_true, then_false, stores_from, fetches_from)
+clear_good j p f t = search (rules, both_none, cond_none, cond-false, or_parts, then_true, then_false, stores_from, fetches_from)
 
 pub fault_exists : (j : Job) (p : Place) → (r : Option Reason) × HasFault j p r
 fault_exists j p = let x = argument_exists (storage_of j) p.address in (fault_with j p x.0, (x.0, x.1, refl))

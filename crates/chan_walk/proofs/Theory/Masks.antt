@@ -1,7 +1,7 @@
 -- Strictness of masks.
 use Rattle.chan_walk.proofs.Names.{and_from, class_passes, false, inhibits, is_at_least, is_mask, lookup, None, Option, refl, Some, true, ℕ, ◌≡◌}
 use Rattle.ckd_core.specs.Mask.{inhibits_class}
-use Rattle.ckd_core.specs.Command.{Entry as Command}
+use Rattle.ckd_core.specs.Command.{CommandEntry}
 use Rattle.ckd_core.proofs.LevelLemmas.{strict-permits}
 
 -- a file mask is at least as strict as itself
@@ -25,6 +25,6 @@ pub laxer_permits : (byte mask code : ℕ) → is_at_least byte mask ≡ true �
 unfolding inhibits
 laxer_permits byte mask code h e = go (lookup code) e
   where
-    go : (o : Option Command) → class_passes (inhibits_class byte) o ≡ false → class_passes (inhibits_class mask) o ≡ false
+    go : (o : Option CommandEntry) → class_passes (inhibits_class byte) o ≡ false → class_passes (inhibits_class mask) o ≡ false
     go None e = refl
     go (Some k) e = ((strict-permits byte mask).0 h).1 k.class e

@@ -20,8 +20,8 @@ increasing (n ∷ m ∷ ms) h (suc k) l =
 or_assoc : (a b c : Option Reason) → option_or (option_or a b) c ≡ option_or a (option_or b c)
 or_assoc a b c = search rules
 
-marks_or_none : (a : Option Reason) → option_or a None ≡ a
-marks_or_none a = search rules
+or_none : (a : Option Reason) → option_or a None ≡ a
+or_none a = search rules
 
 pub numbers_increase : NumbersIncrease
 unfolding program_check_of
@@ -41,7 +41,7 @@ numbers_increase j p x = (same (is_transfer c), rises (is_transfer c))
 
     same : (b : Bool) → option_or (option_or (first_reason any) (if b then None else first_reason ccw)) (if b then None else first_reason own)
         ≡ first_reason (any ++ (if b then [] else ccw ++ own))
-    same true = marks_or_none (option_or (first_reason any) None) ∙ marks_or_none (first_reason any) ∙ ap first_reason (sym (append-nil any))
+    same true = or_none (option_or (first_reason any) None) ∙ or_none (first_reason any) ∙ ap first_reason (sym (append-nil any))
     same false =
         or_assoc (first_reason any) (first_reason ccw) (first_reason own)
         ∙ ap (option_or (first_reason any)) (sym (first_reason-append ccw own)) ∙ sym (first_reason-append any (ccw ++ own))

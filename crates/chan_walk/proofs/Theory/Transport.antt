@@ -9,8 +9,8 @@ pub record CarriesOver (j k : Job) (p : Place) : Type 0 where
   pub takes : IsClear j p → (b : ℕ) → TakesArgumentByte (storage_of j) p b → TakesArgumentByte (storage_of k) p b
 
 -- q comes after p, whose CCW is c
-abbrev LeadsOn : Place → Place → Fields → Type 0
-LeadsOn p q c = (next_of p c (kind_of p.entered c) ≡ Some q) ⊎ (skip_of p c (kind_of p.entered c) ≡ Some q)
+abbrev pub LeadsByCcw : Place → Place → Fields → Type 0
+LeadsByCcw p q c = (next_of p c (kind_of p.entered c) ≡ Some q) ⊎ (skip_of p c (kind_of p.entered c) ≡ Some q)
 
 module _ (j k : Job) (first : first_place j ≡ first_place k) (over : (p : Place) → IsReachable j p → IsReachable k p → CarriesOver j k p) where
   path_over : (ps : List Place) → IsPath j ps → IsPath k ps
@@ -19,7 +19,7 @@ module _ (j k : Job) (first : first_place j ≡ first_place k) (over : (p : Plac
   path_over (q ∷ p ∷ ps) e =
       let before = path_over (p ∷ ps) e.0 in
       let here = over p (ps, e.0) (ps, before) in
-      (before, here.clear e.1, subst (LeadsOn p q) (here.ccw e.1) e.2)
+      (before, here.clear e.1, subst (LeadsByCcw p q) (here.ccw e.1) e.2)
 
   pub reach_over : (p : Place) → IsReachable j p → IsReachable k p
   reach_over p r = (r.0, path_over (p ∷ r.0) r.1)

@@ -4,7 +4,7 @@ use Rattle.chan_walk.specs.declared.verdict.Verdict.{Verdict}
 use Rattle.chan_walk.specs.declared.verdict.Verdict.TheVariants.{Yes, No}
 use Rattle.chan_walk.specs.Answers.{IsAnswer}
 use Rattle.chan_walk.specs.Places.{HasMoreThan}
-use Rattle.chanv_c.specs.Needs.{HasTooManyOpenly, IsOpenFor}
+use Rattle.chanv_c.specs.Needs.{HasTooManyOpenly, IsOpenJobFor}
 use Rattle.chanv_c.proofs.Refusals.{walk_refused}
 use Rattle.chanv_c.proofs.needs.found_on.Goals as goal
 
@@ -13,7 +13,7 @@ returns-in_err-survey-clause-refusal c =
     let asked = c.args.asked.now in
     let opened = c.args.opened.now in
     let limit = c.requires.opened.limit ∙ c.requires.asked.limit in
-    let is : IsOpenFor asked opened = record { job = c.args.job.now; asked = c.requires.asked; is_open = c.requires.opened } in
+    let is : IsOpenJobFor asked opened = record { job = c.args.job.now; asked = c.requires.asked; is_open = c.requires.opened } in
     walk_refused (HasTooManyOpenly asked) asked c.in_err-survey.field-0.0 c.from_residual.result c.requires.right
     (λ many. record { opened = opened; is_open = is; many = subst (HasMoreThan opened) limit (c.in_err-survey.ensures.many (ap Err many)) })
     c.from_residual.ensures.1

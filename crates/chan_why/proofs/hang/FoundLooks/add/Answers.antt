@@ -1,7 +1,7 @@
 use Rattle.chan_why.proofs.Names.{false, get_or, get_or_read, length, refl, subst, sym, true, ◌∙◌, ◌≡◌}
 use Rattle.chan_why.proofs.Retracing.{find_one, finds_as, finds_known}
-use Rattle.chan_why.proofs.hang.Found.add.Goals as goal
-use Rattle.chan_why.proofs.hang.Found.add.Goals.{else-predecessor-of-via-then-predecessor-of+else-not-index, else-predecessor-of-via-else-predecessor-of}
+use Rattle.chan_why.proofs.hang.FoundLooks.add.Goals as goal
+use Rattle.chan_why.proofs.hang.FoundLooks.add.Goals.{else-predecessor-of-via-then-predecessor-of+else-not-index, else-predecessor-of-via-else-predecessor-of}
 
 pub returns-in_ok-push : goal.returns-in_ok-push
 returns-in_ok-push c =

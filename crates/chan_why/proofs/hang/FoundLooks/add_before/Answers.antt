@@ -1,6 +1,6 @@
 use Rattle.chan_why.proofs.Names.{arith, FindsMore, has_at, length, refl, slice_get_read, subst, ◌-◌, ◌≡◌, ◌⊎◌}
 use Rattle.chan_why.proofs.Retracing.{IsListed, all_listed, below_end, finds_as, finds_both, listed_more, row_before}
-use Rattle.chan_why.proofs.hang.Found.add_before.Goals as goal
+use Rattle.chan_why.proofs.hang.FoundLooks.add_before.Goals as goal
 
 pub index-predecessor-requires : goal.index-predecessor-requires
 index-predecessor-requires c =

@@ -1,6 +1,6 @@
 use Rattle.chan_why.proofs.Names.{bucket_of, BucketEndsAt, FindsMore, length, take, ℕ}
 use Rattle.chan_why.proofs.Retracing.{IsListed}
-use Rattle.chan_why.proofs.hang.Found.add_before.Given as goal
+use Rattle.chan_why.proofs.hang.FoundLooks.add_before.Given as goal
 
 abbrev pub invariant-loop-end : goal.invariant-loop-end
 invariant-loop-end l = record {
