@@ -4,7 +4,7 @@
     tests/audit.py             all of that
     tests/audit.py --proofs    only proves
 
-The kit's gate is `rt ci`, to which tests/kit_gate.py gives all processors. It runs in a copy
+The kit's gate is `rt ci`; tests/kit_gate.py runs it and keeps what it builds. It runs in a copy
 without must-fail/, because for these edits it would prove a crate once more. If the checkout has no
 libraries, it gets each library and program that `rt ci` built, and all that follows begins with
 these: `make`, `make lib`, and the mutants of a crate once it is proved. A library holds what the

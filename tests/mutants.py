@@ -34,7 +34,8 @@ The others are wrong definitions, with the code that computes them, and constant
 functions read. For each of these a copy is checked as far as the law or the function that has to
 refuse it, with the lemmas that its proof cites.
 
-A check runs on each processor, the one with most mutants first, and gives way to other processes.
+A check runs on each processor, the one with most mutants first. Those of mutants give way to other
+processes.
 
 It prints a line for each mutant, with the goals, those of the second sort as (answered), or with
 the first complaint, and the processor time of each check. The last line is `N refused, M failed`,

@@ -258,8 +258,8 @@ pub(crate) fn verb_at(look: &Look) -> Option<&'static str> {
     if reads { Some("skips") } else { None }
 }
 
-/// The text of a row; `width` is that of the longest name in its box.
-fn text_of_row(alloc: Global, job: &Job, row: &Row, width: usize) -> Result<String, AllocError> {
+/// A row as the picture has it; `width` is that of the longest name in its box.
+fn drawn_row(alloc: Global, job: &Job, row: &Row, width: usize) -> Result<String, AllocError> {
     let address = Address(row.look.place().address);
     let name = name_text(alloc, job, row.look)?;
     let mut text = format!(in alloc; "{address}  {name}")?;
@@ -339,7 +339,7 @@ fn push_rows(
             }
         } else if let Some(row) = row_at(scene, *at) {
             let cell = Cell::Row(row.look.place().address);
-            let text = text_of_row(alloc, job, &row, width)?;
+            let text = drawn_row(alloc, job, &row, width)?;
             push_line(out, Some(cell), text.as_str())?;
         }
     }
