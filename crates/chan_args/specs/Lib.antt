@@ -1,5 +1,1 @@
 pub mod Actions
-pub mod CommandWords
-pub mod ImageLine
-pub mod Lines
-pub mod CommandLine

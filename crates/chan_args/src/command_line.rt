@@ -1,16 +1,5 @@
 //! The command line: which words ask for what.
 
-ghost use Rattle.std.specs.Prelude.{◌≡◌, ◌↔◌, IfErr, IfOk, IsTrue, OnOk, Some, codes, map};
-ghost use Rattle.std.specs.Prelude.{option_map, string_bytes};
-ghost use Rattle.clap.specs.Words.{HasKind, IsAmong, fault_of, found_of, kind_of, rows_of};
-ghost use Rattle.clap.specs.Words.{subcommand_of, subcommand_rows_of};
-ghost use Rattle.clap.specs.declared.error.kind.ErrorKind.TheVariants.{InvalidSubcommand};
-ghost use Rattle.chan_args.specs.CommandLine.{IsRequestOf, IsAnswerTo, IsKnownCommand, IsAccepted};
-ghost use Rattle.chan_args.specs.CommandLine.{IsDeckRequest, IsRunRequest, flags_asked};
-ghost use Rattle.chan_args.specs.CommandLine.{may_be_flags, is_help_flag, words_as_read};
-ghost use Rattle.chan_args.specs.Lines.{chanv};
-ghost use Rattle.chan_args.specs.CommandWords.{IsStandardInput, files_in, texts_of};
-
 use crate::action::{Action, Explained};
 use crate::image_command::{ImageRequest, grant_fault, image_request};
 use crate::image_words::GrantFault;
@@ -65,21 +54,13 @@ pub enum Request<'a> {
 }
 
 /// What the words ask for, or why clap doesn't take them.
-fn asked<'a>(alloc: Global, words: &'a [String]) -> Result<Request<'a>, Error>
-    ensures taken { OnOk result (IsAccepted (map string_bytes words.entry.now)) }
-    ensures asked { IfOk result
-        (IsRequestOf (subcommand_of chanv (map string_bytes words.entry.now))) }
-    ensures err { IfErr result (HasKind (fault_of chanv (map string_bytes words.entry.now))) }
-{
+fn asked<'a>(alloc: Global, words: &'a [String]) -> Result<Request<'a>, Error> {
     let matches = command(alloc)?.try_get_matches_from(words)?;
     Ok(request_of(alloc, &matches)?)
 }
 
 /// The request for the command that clap met, or for `verify` if it met none.
-fn request_of<'a>(alloc: Global, matches: &ArgMatches<'a>) -> Result<Request<'a>, AllocError>
-    requires { IsKnownCommand (subcommand_rows_of matches.now) }
-    ensures { IfOk result (IsRequestOf (subcommand_rows_of matches.now)) }
-{
+fn request_of<'a>(alloc: Global, matches: &ArgMatches<'a>) -> Result<Request<'a>, AllocError> {
     match matches.subcommand() {
         Some((name, inner)) => request_named(alloc, name, inner),
         None => Ok(Request::Run(Action::Verify)),
@@ -91,10 +72,7 @@ fn request_named<'a>(
     alloc: Global,
     name: &str,
     matches: &ArgMatches<'a>,
-) -> Result<Request<'a>, AllocError>
-    requires { IsKnownCommand (Some (name.now, rows_of (found_of matches.now))) }
-    ensures { IfOk result (IsRequestOf (Some (name.now, rows_of (found_of matches.now)))) }
-{
+) -> Result<Request<'a>, AllocError> {
     match name {
         "show" => Ok(show_request(matches)),
         "list" => list_request(alloc, matches),
@@ -109,9 +87,7 @@ fn request_named<'a>(
 }
 
 /// The request to show the word that clap met as the CCW.
-fn show_request<'a>(matches: &ArgMatches<'a>) -> Request<'a>
-    ensures { IsRequestOf (Some (codes "show", rows_of (found_of matches.now))) result }
-{
+fn show_request<'a>(matches: &ArgMatches<'a>) -> Request<'a> {
     match text_met(matches, "CCW") {
         Some(word) if is_flagged(matches, "name") => Request::ShowNamed(word),
         Some(word) => Request::Show(word),
@@ -120,9 +96,7 @@ fn show_request<'a>(matches: &ArgMatches<'a>) -> Request<'a>
 }
 
 /// The request of `explain WORD`, or of `explain` alone.
-fn explain_request<'a>(alloc: Global, matches: &ArgMatches<'a>) -> Result<Request<'a>, AllocError>
-    ensures { IfOk result (IsRequestOf (Some (codes "explain", rows_of (found_of matches.now)))) }
-{
+fn explain_request<'a>(alloc: Global, matches: &ArgMatches<'a>) -> Result<Request<'a>, AllocError> {
     let words = texts_met(alloc, matches, "WORD")?;
     if words.is_empty() {
         return Ok(Request::Words);
@@ -131,25 +105,19 @@ fn explain_request<'a>(alloc: Global, matches: &ArgMatches<'a>) -> Result<Reques
 }
 
 /// The request to list the places of the decks that clap met.
-fn list_request<'a>(alloc: Global, matches: &ArgMatches<'a>) -> Result<Request<'a>, AllocError>
-    ensures { IfOk result (IsRequestOf (Some (codes "list", rows_of (found_of matches.now)))) }
-{
+fn list_request<'a>(alloc: Global, matches: &ArgMatches<'a>) -> Result<Request<'a>, AllocError> {
     let wide = is_flagged(matches, "wide");
     request_over(alloc, Action::List { wide }, matches)
 }
 
 /// The request to say what the programs of the decks need that clap met.
-fn needs_request<'a>(alloc: Global, matches: &ArgMatches<'a>) -> Result<Request<'a>, AllocError>
-    ensures { IfOk result (IsRequestOf (Some (codes "needs", rows_of (found_of matches.now)))) }
-{
+fn needs_request<'a>(alloc: Global, matches: &ArgMatches<'a>) -> Result<Request<'a>, AllocError> {
     let deck = is_flagged(matches, "deck");
     request_over(alloc, Action::Needs { deck }, matches)
 }
 
 /// The request to explain the verdicts on the decks that clap met, or the offences at an address.
-fn why_request<'a>(alloc: Global, matches: &ArgMatches<'a>) -> Result<Request<'a>, AllocError>
-    ensures { IfOk result (IsRequestOf (Some (codes "why", rows_of (found_of matches.now)))) }
-{
+fn why_request<'a>(alloc: Global, matches: &ArgMatches<'a>) -> Result<Request<'a>, AllocError> {
     let all = is_flagged(matches, "all");
     match text_met(matches, "of") {
         Some(_) if all => Ok(Request::AllWithOf),
@@ -163,9 +131,7 @@ fn why_request<'a>(alloc: Global, matches: &ArgMatches<'a>) -> Result<Request<'a
 }
 
 /// The request to make a deck of what clap met.
-fn deck_request<'a>(alloc: Global, matches: &ArgMatches<'a>) -> Result<Request<'a>, AllocError>
-    ensures { IfOk result (IsDeckRequest (rows_of (found_of matches.now))) }
-{
+fn deck_request<'a>(alloc: Global, matches: &ArgMatches<'a>) -> Result<Request<'a>, AllocError> {
     match grant_fault(matches) {
         Some(fault) => Ok(Request::Grants(fault)),
         None => Ok(Request::Image(image_request(alloc, matches)?)),
@@ -173,9 +139,7 @@ fn deck_request<'a>(alloc: Global, matches: &ArgMatches<'a>) -> Result<Request<'
 }
 
 /// The request to find the programs in what clap met.
-fn search_request<'a>(alloc: Global, matches: &ArgMatches<'a>) -> Result<Request<'a>, AllocError>
-    ensures { IfOk result (IsRequestOf (Some (codes "find", rows_of (found_of matches.now)))) }
-{
+fn search_request<'a>(alloc: Global, matches: &ArgMatches<'a>) -> Result<Request<'a>, AllocError> {
     Ok(Request::Find(image_request(alloc, matches)?))
 }
 
@@ -184,9 +148,7 @@ fn request_over<'a>(
     alloc: Global,
     action: Action,
     matches: &ArgMatches<'a>,
-) -> Result<Request<'a>, AllocError>
-    ensures { IfOk result (IsRunRequest action (files_in (rows_of (found_of matches.now)))) }
-{
+) -> Result<Request<'a>, AllocError> {
     let files = texts_met(alloc, matches, "FILE")?;
     if is_standard_input(files.as_slice()) {
         return Ok(Request::Run(action));
@@ -195,9 +157,7 @@ fn request_over<'a>(
 }
 
 /// Whether these files are standard input: there is none, or `-` alone.
-fn is_standard_input(files: &[&str]) -> bool
-    ensures { IsTrue result ↔ IsStandardInput (texts_of files.now) }
-{
+fn is_standard_input(files: &[&str]) -> bool {
     match files {
         [] => true,
         [file] => *file == "-",
@@ -206,9 +166,7 @@ fn is_standard_input(files: &[&str]) -> bool
 }
 
 /// The words as clap reads them: a call for the help of `help` is one for help.
-fn words_as_read<'a>(words: &'a [String]) -> &'a [String]
-    ensures { map string_bytes result.now ≡ words_as_read (map string_bytes words.entry.now) }
-{
+fn words_as_read<'a>(words: &'a [String]) -> &'a [String] {
     match words {
         [_, help, flag] if help.as_str() == "help" && is_help_flag(flag.as_str()) => &words[..2],
         _ => words,
@@ -216,10 +174,7 @@ fn words_as_read<'a>(words: &'a [String]) -> &'a [String]
 }
 
 /// The flags of a listing whose meaning is asked for, if they begin like an option.
-fn flags_asked<'a>(words: &'a [String]) -> Option<&'a str>
-    ensures { option_map (λ flags. flags.now) result
-        ≡ flags_asked (map string_bytes words.entry.now) }
-{
+fn flags_asked<'a>(words: &'a [String]) -> Option<&'a str> {
     match words {
         [_, command, flags] if command.as_str() == "explain" && may_be_flags(flags.as_bytes()) => {
             Some(flags.as_str())
@@ -229,9 +184,7 @@ fn flags_asked<'a>(words: &'a [String]) -> Option<&'a str>
 }
 
 /// Whether a word may be the flags of a listing, of which the first is off.
-fn may_be_flags(word: &[u8]) -> bool
-    ensures { result ≡ may_be_flags word.now }
-{
+fn may_be_flags(word: &[u8]) -> bool {
     match word {
         [b'-', _, _, _, _, low] => low.is_ascii_digit(),
         _ => false,
@@ -239,18 +192,12 @@ fn may_be_flags(word: &[u8]) -> bool
 }
 
 /// Whether a word calls for help.
-fn is_help_flag(word: &str) -> bool
-    ensures { result ≡ is_help_flag word.now }
-{
+fn is_help_flag(word: &str) -> bool {
     word == "--help" || word == "-h"
 }
 
 /// The answer to words that clap doesn't take, because it doesn't know a command.
-fn no_command<'a>(words: &'a [String], error: Error) -> Request<'a>
-    requires { (kind_of error ≡ InvalidSubcommand)
-        × IsAmong InvalidSubcommand (fault_of chanv (map string_bytes words.now)) }
-    ensures { IsAnswerTo (map string_bytes words.entry.now) result }
-{
+fn no_command<'a>(words: &'a [String], error: Error) -> Request<'a> {
     match words.get(1) {
         Some(word) if word.as_str() != "help" => Request::NoCommand(word.as_str(), error),
         _ => Request::Fault(error),
@@ -264,9 +211,7 @@ fn no_command<'a>(words: &'a [String], error: Error) -> Request<'a>
 /// Otherwise it is `Help`, `Version`, `NoCommand` or `Fault`, by the kind of fault that it finds.
 /// `NoMemory` may come in place of each.
 #[inline(never)]
-pub fn read_request<'a>(alloc: Global, words: &'a [String]) -> Request<'a>
-    ensures answer { IsAnswerTo (words_as_read (map string_bytes words.entry.now)) result }
-{
+pub fn read_request<'a>(alloc: Global, words: &'a [String]) -> Request<'a> {
     let words = words_as_read(words);
     if let Some(flags) = flags_asked(words) {
         return Request::ExplainFlags(flags);

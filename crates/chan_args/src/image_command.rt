@@ -1,12 +1,5 @@
 //! The commands over an image of storage, `find` and `deck`: what their words ask for.
 
-ghost use Rattle.std.specs.Prelude.{◌≡◌, codes, IfOk, option_map};
-ghost use Rattle.clap.specs.Words.{found_of, rows_of};
-ghost use Rattle.chan_args.specs.CommandWords.{file_in, texts_of};
-ghost use Rattle.chan_args.specs.ImageLine.{SaysImage, SaysOptions, requested_job};
-ghost use Rattle.chan_args.specs.ImageLine.{option_with_least, option_with_open, extents_or_all};
-ghost use Rattle.chan_args.specs.ImageLine.{grant_fault, granting_option, texts_in};
-
 use crate::image_words::{GrantFault, ImageOption, ImageWords, RequestedJob};
 use crate::words_met::{is_flagged, text_met, text_or, texts_met};
 use clap::ArgMatches;
@@ -27,9 +20,7 @@ pub struct ImageRequest<'a> {
 }
 
 /// The file that clap met, unless it is standard input.
-fn file<'a>(matches: &ArgMatches<'a>) -> Option<&'a str>
-    ensures { option_map (λ name. name.now) result ≡ file_in (rows_of (found_of matches.now)) }
-{
+fn file<'a>(matches: &ArgMatches<'a>) -> Option<&'a str> {
     match text_met(matches, "FILE") {
         Some(name) if name != "-" => Some(name),
         _ => None,
@@ -37,9 +28,7 @@ fn file<'a>(matches: &ArgMatches<'a>) -> Option<&'a str>
 }
 
 /// The job that is asked for.
-fn requested_job(matches: &ArgMatches<'_>) -> RequestedJob
-    ensures { result ≡ requested_job (rows_of (found_of matches.now)) }
-{
+fn requested_job(matches: &ArgMatches<'_>) -> RequestedJob {
     if is_flagged(matches, "least") {
         RequestedJob::Least
     } else if is_flagged(matches, "open") {
@@ -50,9 +39,7 @@ fn requested_job(matches: &ArgMatches<'_>) -> RequestedJob
 }
 
 /// The first option that grants something of its own.
-fn granting_option(matches: &ArgMatches<'_>) -> Option<ImageOption>
-    ensures { result ≡ granting_option (rows_of (found_of matches.now)) }
-{
+fn granting_option(matches: &ArgMatches<'_>) -> Option<ImageOption> {
     if text_met(matches, "mask").is_some() {
         Some(ImageOption::Mask)
     } else if text_met(matches, "extent").is_some() {
@@ -67,9 +54,7 @@ fn granting_option(matches: &ArgMatches<'_>) -> Option<ImageOption>
 }
 
 /// The first option that grants something beside the least job.
-fn option_with_least(matches: &ArgMatches<'_>) -> Option<GrantFault>
-    ensures { result ≡ option_with_least (rows_of (found_of matches.now)) }
-{
+fn option_with_least(matches: &ArgMatches<'_>) -> Option<GrantFault> {
     if is_flagged(matches, "open") {
         return Some(GrantFault::WithLeast(ImageOption::Open));
     }
@@ -80,9 +65,7 @@ fn option_with_least(matches: &ArgMatches<'_>) -> Option<GrantFault>
 }
 
 /// The first option that grants something beside the open job.
-fn option_with_open(matches: &ArgMatches<'_>) -> Option<GrantFault>
-    ensures { result ≡ option_with_open (rows_of (found_of matches.now)) }
-{
+fn option_with_open(matches: &ArgMatches<'_>) -> Option<GrantFault> {
     match granting_option(matches) {
         Some(option) => Some(GrantFault::WithOpen(option)),
         None => None,
@@ -90,9 +73,7 @@ fn option_with_open(matches: &ArgMatches<'_>) -> Option<GrantFault>
 }
 
 /// Why the options that clap met don't say one job, if they don't.
-pub(crate) fn grant_fault(matches: &ArgMatches<'_>) -> Option<GrantFault>
-    ensures { result ≡ grant_fault (rows_of (found_of matches.now)) }
-{
+pub(crate) fn grant_fault(matches: &ArgMatches<'_>) -> Option<GrantFault> {
     if is_flagged(matches, "least") {
         option_with_least(matches)
     } else if is_flagged(matches, "open") {
@@ -105,10 +86,7 @@ pub(crate) fn grant_fault(matches: &ArgMatches<'_>) -> Option<GrantFault>
 }
 
 /// The texts of the extents; of all cylinders where there is none.
-fn extents<'a>(alloc: Global, matches: &ArgMatches<'a>) -> Result<Vec<&'a str>, AllocError>
-    ensures { IfOk result (λ texts. texts_of texts.items
-        ≡ extents_or_all (texts_in (codes "extent") (rows_of (found_of matches.now)))) }
-{
+fn extents<'a>(alloc: Global, matches: &ArgMatches<'a>) -> Result<Vec<&'a str>, AllocError> {
     let mut texts = texts_met(alloc, matches, "extent")?;
     if texts.is_empty() {
         texts.push(ALL_CYLINDERS)?;
@@ -117,9 +95,7 @@ fn extents<'a>(alloc: Global, matches: &ArgMatches<'a>) -> Result<Vec<&'a str>, 
 }
 
 /// The texts of the options that clap met, the usual ones where an option isn't given.
-fn image_words<'a>(alloc: Global, matches: &ArgMatches<'a>) -> Result<ImageWords<'a>, AllocError>
-    ensures { IfOk result (SaysOptions (rows_of (found_of matches.now))) }
-{
+fn image_words<'a>(alloc: Global, matches: &ArgMatches<'a>) -> Result<ImageWords<'a>, AllocError> {
     let extents = extents(alloc, matches)?;
     Ok(ImageWords {
         device: text_or(matches, "device", "2314"),
@@ -140,9 +116,7 @@ fn image_words<'a>(alloc: Global, matches: &ArgMatches<'a>) -> Result<ImageWords
 pub(crate) fn image_request<'a>(
     alloc: Global,
     matches: &ArgMatches<'a>,
-) -> Result<ImageRequest<'a>, AllocError>
-    ensures { IfOk result (SaysImage (rows_of (found_of matches.now))) }
-{
+) -> Result<ImageRequest<'a>, AllocError> {
     Ok(ImageRequest {
         words: image_words(alloc, matches)?,
         file: file(matches),

@@ -1,10 +1,5 @@
 //! A table of what each command takes, and the command line that is built from it.
 
-ghost use Rattle.std.specs.Prelude.{◌≡◌, false, IfOk, IsOkAnd};
-ghost use Rattle.clap.specs.Words.{App, app_of, new_app, rule_of, with_rule, with_subcommand};
-ghost use Rattle.chan_args.specs.Lines.{chanv, bare_program, line_in, rule_in, with_lines};
-ghost use Rattle.chan_args.specs.CommandWords.{IsCommand};
-
 use clap::{Arg, ArgAction, Command};
 use std::alloc::{AllocError, Global};
 
@@ -374,16 +369,12 @@ pub(crate) const LINES: &[Line] = &[
 /// The command line that the program takes. It isn't inlined, and nor is `line_command`, so that
 /// what each takes of the stack is given back before the words are read.
 #[inline(never)]
-pub(crate) fn command<'a>(alloc: Global) -> Result<Command<'a>, AllocError>
-    ensures { IfOk result (λ c. app_of c ≡ chanv) }
-{
+pub(crate) fn command<'a>(alloc: Global) -> Result<Command<'a>, AllocError> {
     commands_over(alloc, LINES)
 }
 
 /// The program with these commands.
-fn commands_over<'a>(alloc: Global, lines: &[Line]) -> Result<Command<'a>, AllocError>
-    ensures { IfOk result (λ c. app_of c ≡ with_lines line_in bare_program lines.now) }
-{
+fn commands_over<'a>(alloc: Global, lines: &[Line]) -> Result<Command<'a>, AllocError> {
     let mut command = program(alloc);
     for line in lines {
         command = with_line(alloc, command, line);
@@ -392,9 +383,7 @@ fn commands_over<'a>(alloc: Global, lines: &[Line]) -> Result<Command<'a>, Alloc
 }
 
 /// The program without commands.
-fn program<'a>(alloc: Global) -> Result<Command<'a>, AllocError>
-    ensures { IfOk result (λ c. app_of c ≡ bare_program) }
-{
+fn program<'a>(alloc: Global) -> Result<Command<'a>, AllocError> {
     Ok(
         Command::new(alloc, "chanv")
             .about("tells whether System/360 channel programs are safe to start")
@@ -409,19 +398,14 @@ fn with_line<'a>(
     alloc: Global,
     command: Result<Command<'a>, AllocError>,
     line: &Line,
-) -> Result<Command<'a>, AllocError>
-    ensures { IfOk result (λ c. IsOkAnd command.entry (λ old. app_of c
-        ≡ with_subcommand (app_of old) (line_in line.now).top)) }
-{
+) -> Result<Command<'a>, AllocError> {
     let command = command?;
     command.subcommand(line_command(alloc, line)?)
 }
 
 /// The command of a line.
 #[inline(never)]
-fn line_command<'a>(alloc: Global, line: &Line) -> Result<Command<'a>, AllocError>
-    ensures { IfOk result (IsCommand (line_in line.now)) }
-{
+fn line_command<'a>(alloc: Global, line: &Line) -> Result<Command<'a>, AllocError> {
     let mut command = Ok(titled(alloc, line));
     for word in line.3 {
         command = with_word(alloc, command, word);
@@ -430,9 +414,7 @@ fn line_command<'a>(alloc: Global, line: &Line) -> Result<Command<'a>, AllocErro
 }
 
 /// The command of a line without words.
-fn titled<'a>(alloc: Global, line: &Line) -> Command<'a>
-    ensures { IsCommand (new_app line.now.0.now) result }
-{
+fn titled<'a>(alloc: Global, line: &Line) -> Command<'a> {
     let (name, about, after_help, _, usage) = *line;
     let mut command = Command::new(alloc, name).about(about);
     if !after_help.is_empty() {
@@ -449,17 +431,12 @@ fn with_word<'a>(
     alloc: Global,
     command: Result<Command<'a>, AllocError>,
     word: &Word,
-) -> Result<Command<'a>, AllocError>
-    ensures { IfOk result (λ c. IsOkAnd command.entry (λ old. (line : App) → IsCommand line old
-        → IsCommand (with_rule line (rule_in word.now)) c)) }
-{
+) -> Result<Command<'a>, AllocError> {
     command?.arg(arg_of(alloc, word))
 }
 
 /// The argument of a word.
-fn arg_of<'a>(alloc: Global, word: &Word) -> Arg<'a>
-    ensures { (rule_of result ≡ rule_in word.now) × (result.global ≡ false) }
-{
+fn arg_of<'a>(alloc: Global, word: &Word) -> Arg<'a> {
     let (name, given, value, help) = *word;
     let arg = Arg::new(alloc, name).help(help);
     match given {
