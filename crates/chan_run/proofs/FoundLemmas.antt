@@ -5,8 +5,6 @@ use Rattle.chan_walk.specs.declared.job.Job.{Job}
 use Rattle.chan_walk.specs.OpenJob.{open_job}
 use Rattle.chan_find.specs.Programs.{AreProgramStarts, IsJobOver}
 use Rattle.chan_run.specs.Find.{AreLines, AreStartsInImage}
-use Rattle.chan_run.specs.OutputWords.{IsDefinitionLine, definition_line, definition_texts}
-use Rattle.std.specs.Borrow.{Bor}
 use Rattle.chan_run.specs.declared.image_options.ImageOptions.{ImageOptions}
 
 -- a line more
@@ -31,27 +29,3 @@ pub starts_over : (o : ImageOptions) (image held starts items : List ℕ)
     → AreStartsInImage o image items
 starts_over o image held starts items is same are j over =
     rw same (are j (record { storage = over.storage ∙ sym is; device = over.device }))
-
--- the line of a row more
-pub definitions_more : (rows : List (Bor (List ℕ))) (i : ℕ) (d : Bor (List ℕ)) (text line : List ℕ)
-    → i < length rows → AreLines IsDefinitionLine (take i (definition_texts rows)) text
-    → line ≡ definition_line (slice_index_or rows i d).now
-    → AreLines IsDefinitionLine (take (suc i) (definition_texts rows)) (text ++ line)
-definitions_more [] i d text line lt before is = absurd (omega (arith, lt))
-definitions_more (r ∷ rows) zero d text line lt before is = (line, [], is, refl, rw before (sym (append-nil line)))
-definitions_more (r ∷ rows) (suc i) d text line lt (first, rest, at, are, joins) is = (
-  first,
-  rest ++ line,
-  at,
-  definitions_more rows i d rest line (omega (arith, lt)) are is,
-  ap (λ t. t ++ line) joins ∙ append_assoc first rest line,
-)
-
--- the lines of all rows
-pub all_rows : (rows : List (Bor (List ℕ))) (n : ℕ) (text : List ℕ) → length rows ≡ n
-    → AreLines IsDefinitionLine (take n (definition_texts rows)) text → AreLines IsDefinitionLine (definition_texts rows) text
-all_rows [] zero text is are = are
-all_rows [] (suc n) text is are = are
-all_rows (r ∷ rows) zero text is are = absurd (omega (arith, is))
-all_rows (r ∷ rows) (suc n) text is (first, rest, at, are, joins) =
-    (first, rest, at, all_rows rows n rest (omega (arith, is)) are, joins)

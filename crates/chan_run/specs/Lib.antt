@@ -1,6 +1,5 @@
 pub mod Input
 pub mod Name
-pub mod Word
 pub mod Output
 pub mod Failure
 pub mod Terms
@@ -8,9 +7,6 @@ pub mod Outcome
 pub mod Options
 pub mod OneCcw
 pub mod OptionValues
-pub mod Bases
-pub mod OptionFault
-pub mod ExtraWord
 pub mod Image
 pub mod ImageNote
 pub mod NoJob
@@ -19,6 +15,3 @@ pub mod MadeDeck
 pub mod Texts
 pub mod Response
 pub mod Find
-pub mod OutputWords
-pub mod Spelled
-pub mod Meanings

@@ -1,8 +1,5 @@
 //! Decimal digits that an option reads as a hexadecimal number, and what its fault says of them.
 
-ghost use Rattle.std.specs.Prelude.{◌≡◌, ◌↔◌, ◌++◌, [], None};
-ghost use Rattle.chan_run.specs.Bases as bases;
-
 use crate::options::number_of;
 use arrayvec::ArrayString;
 use ccw_core::STORAGE_LIMIT;
@@ -36,9 +33,7 @@ impl fmt::Display for Grouped {
 }
 
 /// Whether an option takes one hexadecimal number.
-fn is_hexadecimal(option: ImageOption) -> bool
-    ensures { result ≡ bases.is_hexadecimal option }
-{
+fn is_hexadecimal(option: ImageOption) -> bool {
     matches!(
         option,
         ImageOption::Mask
@@ -51,9 +46,7 @@ fn is_hexadecimal(option: ImageOption) -> bool
 
 /// The number that decimal digits write for an option in hexadecimal, and the one in decimal, if it
 /// is another.
-fn both_bases(option: ImageOption, text: &str) -> Option<(u32, u32)>
-    ensures { result ≡ bases.both_bases option text.now }
-{
+fn both_bases(option: ImageOption, text: &str) -> Option<(u32, u32)> {
     if !is_hexadecimal(option) {
         return None;
     }
@@ -66,9 +59,7 @@ fn both_bases(option: ImageOption, text: &str) -> Option<(u32, u32)>
 }
 
 /// Whether an option that takes one hexadecimal number accepts this one.
-fn is_accepted(option: ImageOption, number: u32) -> bool
-    ensures { result ≡ bases.is_accepted option number }
-{
+fn is_accepted(option: ImageOption, number: u32) -> bool {
     match option {
         ImageOption::Mask => number < 0x100 && FileMask::new(number as u8).is_some(),
         ImageOption::Start | ImageOption::At | ImageOption::Of => number < STORAGE_LIMIT,
@@ -78,9 +69,7 @@ fn is_accepted(option: ImageOption, number: u32) -> bool
 }
 
 /// The number that decimal digits write for an option, if it would accept that one.
-fn decimal_meant(option: ImageOption, text: &str) -> Option<u32>
-    ensures { result ≡ bases.decimal_meant option text.now }
-{
+fn decimal_meant(option: ImageOption, text: &str) -> Option<u32> {
     let (_, decimal) = both_bases(option, text)?;
     if is_accepted(option, decimal) {
         Some(decimal)
@@ -99,10 +88,7 @@ fn unit(option: ImageOption) -> &'static str {
 
 /// How an option read a text, if it read decimal digits as another number: the text, that it is
 /// hexadecimal, and the number that it is. Tests hold the wording.
-pub(crate) fn reading(option: ImageOption, text: &str) -> (&str, &str, ArrayString<64>)
-    ensures { (result.0.now ++ (result.1.now ++ result.2.bytes) ≡ [])
-        ↔ (bases.both_bases option text.entry.now ≡ None) }
-{
+pub(crate) fn reading(option: ImageOption, text: &str) -> (&str, &str, ArrayString<64>) {
     let mut number = ArrayString::new();
     let Some((hexadecimal, _)) = both_bases(option, text) else {
         return ("", "", number);
@@ -115,9 +101,7 @@ pub(crate) fn reading(option: ImageOption, text: &str) -> (&str, &str, ArrayStri
 }
 
 /// How to write the number that was meant, if the option would accept it. Tests hold the wording.
-pub(crate) fn correction<'a>(option: ImageOption, text: &str) -> (&'a str, ArrayString<64>)
-    ensures { (result.0.now ++ result.1.bytes ≡ []) ↔ (bases.decimal_meant option text.now ≡ None) }
-{
+pub(crate) fn correction<'a>(option: ImageOption, text: &str) -> (&'a str, ArrayString<64>) {
     let mut how = ArrayString::new();
     let Some(number) = decimal_meant(option, text) else {
         return ("", how);

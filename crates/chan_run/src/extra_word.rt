@@ -1,10 +1,5 @@
 //! What is said of a word that a command doesn't take, in place of the library's first line.
 
-ghost use Rattle.std.specs.Prelude.{◌≡◌, ◌≢◌, ◌++◌, ◌∷◌, IfSome, None, option_map};
-ghost use Rattle.chan_run.specs.ExtraWord as specs;
-ghost use Rattle.chan_run.specs.ExtraWord.{IsFirstLine, IsWithoutTip};
-ghost use Rattle.chan_run.specs.Options.{number_in};
-
 use crate::options::number_of;
 
 /// How the library's text on a word begins that a command doesn't take.
@@ -35,9 +30,7 @@ const LINE_FEED: &str = "\n";
 pub(crate) type FirstLine<'a> = (&'a str, &'a str, &'a str, &'a str);
 
 /// What is said of a word too many for a command that takes one.
-fn takes_one<'a>(command: &str) -> Option<&'a str>
-    ensures { option_map (λ text. text.now) result ≡ specs.takes_one command.now }
-{
+fn takes_one<'a>(command: &str) -> Option<&'a str> {
     match command {
         "graph" => Some(ONE_OF_GRAPH),
         "find" => Some(ONE_OF_FIND),
@@ -48,9 +41,7 @@ fn takes_one<'a>(command: &str) -> Option<&'a str>
 
 /// The first word of `deck` that is a hexadecimal number where the FILE stands: after the command
 /// or after an option without a value.
-fn taken_for_file(words: &[String]) -> Option<&str>
-    ensures { IfSome result (λ word. number_in 16 word.now ≢ None) }
-{
+fn taken_for_file(words: &[String]) -> Option<&str> {
     for number in 2..words.len() {
         let (before, word) = (words[number - 1].as_str(), words[number].as_str());
         let is_file = before == "deck" || before == "--least" || before == "--open";
@@ -62,10 +53,7 @@ fn taken_for_file(words: &[String]) -> Option<&str>
 }
 
 /// The first line for these words of a command.
-fn first_line_of<'a>(command: &str, words: &'a [String]) -> Option<FirstLine<'a>>
-    ensures { IfSome result (λ line. IsFirstLine command.now
-        (line.0.now ++ (line.1.now ++ (line.2.now ++ line.3.now)))) }
-{
+fn first_line_of<'a>(command: &str, words: &'a [String]) -> Option<FirstLine<'a>> {
     if command == "deck" {
         let word = taken_for_file(words)?;
         return Some((ONE_OF_DECK, word, GIVE_START, word));
@@ -76,10 +64,10 @@ fn first_line_of<'a>(command: &str, words: &'a [String]) -> Option<FirstLine<'a>
 
 /// The first line that is said of these words in place of that of the library's text, and what
 /// follows it; `None` if the text stays as it is.
-pub(crate) fn rephrased<'a>(words: &'a [String], text: &'a str) -> Option<(FirstLine<'a>, &'a str)>
-    ensures { IfSome result (λ said. specs.IsRephrased text.entry.now (said.0.0.now
-        ++ (said.0.1.now ++ (said.0.2.now ++ (said.0.3.now ++ 10 ∷ said.1.now))))) }
-{
+pub(crate) fn rephrased<'a>(
+    words: &'a [String],
+    text: &'a str,
+) -> Option<(FirstLine<'a>, &'a str)> {
     if !text.starts_with(UNEXPECTED) || text.starts_with(UNEXPECTED_OPTION) {
         return None;
     }
@@ -90,9 +78,7 @@ pub(crate) fn rephrased<'a>(words: &'a [String], text: &'a str) -> Option<(First
 }
 
 /// What comes before and after the tip of a text that names `--storage` for `--start`.
-pub(crate) fn around_storage(text: &str) -> Option<(&str, &str)>
-    ensures { IfSome result (λ parts. IsWithoutTip text.now parts.0.now parts.1.now) }
-{
+pub(crate) fn around_storage(text: &str) -> Option<(&str, &str)> {
     if !text.starts_with("error: unexpected argument '--start'") {
         return None;
     }

@@ -1,9 +1,7 @@
 //! What the words of verdicts, of refused decks and of failures mean.
 
 ghost use Rattle.std.specs.Prelude.{◌≡◌, ◌↔◌, false, true};
-ghost use Rattle.chan_run.specs.Meanings.{AreTermsListed, AreWordsListed, IsInNoTable, IsNoWord};
-ghost use Rattle.chan_run.specs.Meanings.{IsUnknownWord, IsWordAnswer};
-ghost use Rattle.chan_run.specs.Outcome.{IsCarriedOut, IsWriteFailure};
+ghost use Rattle.chan_run.specs.Outcome.{IsWriteFailure};
 
 use crate::failure::Failure;
 use crate::nearest::nearest_word;
@@ -221,9 +219,6 @@ As the cause of a refused deck: the number is 0 or above 65,536. Write 00001 to
 /// `Done` and `WriteFailed` write anything.
 pub fn explain_word<W: Write>(alloc: Global, word: &str, to: &mut Watched<W>) -> Outcome
     requires { to.old.failed ≡ false }
-    ensures answer { IsWordAnswer word.now (W.contents to.old.device) (W.contents to.new.device)
-        result }
-    ensures early { (IsCarriedOut result → ⊥) → (IsWriteFailure result → ⊥) → to.new ≡ to.old }
     ensures write { IsWriteFailure result ↔ (to.new.failed ≡ true) }
 {
     match term_of(word) {
@@ -236,13 +231,8 @@ pub fn explain_word<W: Write>(alloc: Global, word: &str, to: &mut Watched<W>) ->
 }
 
 /// Writes the line on a text in no table, if it is a command code, a file mask or flags.
-#[tactic(auto, using(crate::proofs::WordAnswers::spelled_answer))]
 fn explain_spelled<W: Write>(alloc: Global, word: &str, to: &mut Watched<W>) -> Outcome
     requires writer { to.old.failed ≡ false }
-    requires word { IsInNoTable word.now }
-    ensures answer { IsWordAnswer word.now (W.contents to.old.device) (W.contents to.new.device)
-        result }
-    ensures early { (IsCarriedOut result → ⊥) → (IsWriteFailure result → ⊥) → to.new ≡ to.old }
     ensures write { IsWriteFailure result ↔ (to.new.failed ≡ true) }
 {
     match spelled_text(alloc, word.as_bytes()) {
@@ -254,10 +244,7 @@ fn explain_spelled<W: Write>(alloc: Global, word: &str, to: &mut Watched<W>) -> 
 
 /// The outcome for an unknown word.
 fn unknown(alloc: Global, word: &str) -> Outcome
-    requires { IsNoWord word.now }
-    ensures is { IsUnknownWord word.now result }
     ensures other { IsWriteFailure result → ⊥ }
-    ensures undone { IsCarriedOut result → ⊥ }
 {
     match nearest_word(alloc, word) {
         Ok(Some(nearest)) => Outcome::Unknown(nearest),
@@ -270,7 +257,6 @@ fn unknown(alloc: Global, word: &str) -> Outcome
 /// fails, it has written a prefix of the lines.
 pub fn list_words<W: Write>(to: &mut Watched<W>) -> Outcome
     requires { to.old.failed ≡ false }
-    ensures answer { AreWordsListed (W.contents to.old.device) (W.contents to.new.device) result }
     ensures write { IsWriteFailure result ↔ (to.new.failed ≡ true) }
 {
     match list_terms(&TERMS, to) {
@@ -282,8 +268,6 @@ pub fn list_words<W: Write>(to: &mut Watched<W>) -> Outcome
 /// Writes the lines of some terms.
 fn list_terms<W: Write>(terms: &[Term], to: &mut Watched<W>) -> Outcome
     requires { to.old.failed ≡ false }
-    ensures answer { AreTermsListed terms.now (W.contents to.old.device) (W.contents to.new.device)
-        result }
     ensures write { IsWriteFailure result ↔ (to.new.failed ≡ true) }
 {
     for term in terms {

@@ -1,10 +1,6 @@
 //! The usage faults that name an option, in the wording of the command line's library.
 
-ghost use Rattle.std.specs.Prelude.{◌≡◌, ◌↔◌, ◌++◌, false, true, codes, IfSome, List, ℕ, IsErr};
-ghost use Rattle.chan_args.specs.declared.image_words.ImageOption.TheVariants as options;
-ghost use Rattle.chan_run.specs.Texts.{WriterGot};
-ghost use Rattle.chan_run.specs.OptionFault.{IsAroundTip, IsFaultText, MayLackTip, IsUsageText};
-ghost use Rattle.chan_run.specs.OptionFault.{file_fault_text, grants_fault_text, usage_of};
+ghost use Rattle.std.specs.Prelude.{◌≡◌, false};
 
 use crate::bases::{correction, reading};
 use crate::extra_word::{around_storage, rephrased};
@@ -57,9 +53,6 @@ const MORE: &str = "\n\nFor more information, try '--help'.\n";
 /// would have accepted the number that they are in decimal, how that one is written.
 pub fn report_option<W: Write>(fault: OptionFault<'_>, to: &mut Watched<W>) -> u8
     requires { to.old.failed ≡ false }
-    ensures status { result ≡ 4 }
-    ensures said { (text : List ℕ) × IsFaultText fault.entry text × WriterGot text
-        (W.contents to.old.device) (W.contents to.new.device) to.new.failed }
 {
     let usage = usage(fault.option);
     let (read, is_hexadecimal, number) = reading(fault.option, fault.text);
@@ -88,9 +81,6 @@ pub fn report_option<W: Write>(fault: OptionFault<'_>, to: &mut Watched<W>) -> u
 /// as `report_option` does.
 pub fn report_grants<W: Write>(fault: GrantFault, to: &mut Watched<W>) -> u8
     requires { to.old.failed ≡ false }
-    ensures status { result ≡ 4 }
-    ensures said { WriterGot (grants_fault_text fault)
-        (W.contents to.old.device) (W.contents to.new.device) to.new.failed }
 {
     let _ = match fault {
         GrantFault::WithLeast(option) => write_grant_fault(WITH_LEAST, usage(option), to),
@@ -104,9 +94,6 @@ pub fn report_grants<W: Write>(fault: GrantFault, to: &mut Watched<W>) -> u8
 /// for, and gives the exit status, 4, as `report_option` does.
 pub fn report_all_with_of<W: Write>(to: &mut Watched<W>) -> u8
     requires { to.old.failed ≡ false }
-    ensures status { result ≡ 4 }
-    ensures said { WriterGot (WITH_ALL.now ++ (usage_of options.Of ++ (codes "'" ++ MORE.now)))
-        (W.contents to.old.device) (W.contents to.new.device) to.new.failed }
 {
     let _ = write_grant_fault(WITH_ALL, usage(ImageOption::Of), to);
     4
@@ -119,9 +106,6 @@ fn write_grant_fault<W: Write>(
     to: &mut Watched<W>,
 ) -> Result<(), DeviceFault>
     requires { to.old.failed ≡ false }
-    ensures said { WriterGot (front.now ++ (usage.now ++ (codes "'" ++ MORE.now)))
-        (W.contents to.old.device) (W.contents to.new.device) to.new.failed }
-    ensures fault { IsErr result ↔ (to.new.failed ≡ true) }
 {
     write_texts(&[front, usage, "'", MORE], to)
 }
@@ -130,9 +114,6 @@ fn write_grant_fault<W: Write>(
 /// gives the exit status, 4, as `report_option` does.
 pub fn report_file<W: Write>(name: &str, to: &mut Watched<W>) -> u8
     requires { to.old.failed ≡ false }
-    ensures status { result ≡ 4 }
-    ensures said { WriterGot (file_fault_text name.now)
-        (W.contents to.old.device) (W.contents to.new.device) to.new.failed }
 {
     let _ = write_texts(
         &[
@@ -147,9 +128,6 @@ pub fn report_file<W: Write>(name: &str, to: &mut Watched<W>) -> u8
 /// as `report_option` does.
 pub fn report_no_ccw<W: Write>(to: &mut Watched<W>) -> u8
     requires { to.old.failed ≡ false }
-    ensures status { result ≡ 4 }
-    ensures said { WriterGot (NO_CCW.now ++ MORE.now)
-        (W.contents to.old.device) (W.contents to.new.device) to.new.failed }
 {
     let _ = write_texts(&[NO_CCW, MORE], to);
     4
@@ -161,9 +139,6 @@ pub fn report_no_ccw<W: Write>(to: &mut Watched<W>) -> u8
 /// word too many, the first line says so.
 pub fn report_usage<'a, W: Write>(words: &'a [String], text: &'a str, to: &mut Watched<W>) -> u8
     requires { to.old.failed ≡ false }
-    ensures status { result ≡ 4 }
-    ensures said { (said : List ℕ) × IsUsageText text.now said × WriterGot said
-        (W.contents to.old.device) (W.contents to.new.device) to.new.failed }
 {
     let _ = match rephrased(words, text) {
         Some(((said, word, more, again), rest)) => {
@@ -177,9 +152,6 @@ pub fn report_usage<'a, W: Write>(words: &'a [String], text: &'a str, to: &mut W
 /// Writes a text without a tip, if it has one of those that are left out.
 fn write_tipless<W: Write>(text: &str, to: &mut Watched<W>) -> Result<(), DeviceFault>
     requires { to.old.failed ≡ false }
-    ensures said { (said : List ℕ) × MayLackTip text.now said × WriterGot said
-        (W.contents to.old.device) (W.contents to.new.device) to.new.failed }
-    ensures fault { IsErr result ↔ (to.new.failed ≡ true) }
 {
     match around_storage(text) {
         Some((front, rest)) => write_texts(&[front, rest], to),
@@ -191,18 +163,14 @@ fn write_tipless<W: Write>(text: &str, to: &mut Watched<W>) -> Result<(), Device
 }
 
 /// What comes before the tip of a text, and behind the empty line that ends it, if it has one.
-fn around_tip(text: &str) -> Option<(&str, &str)>
-    ensures { IfSome result (λ parts. IsAroundTip text.now parts.0.now parts.1.now) }
-{
+fn around_tip(text: &str) -> Option<(&str, &str)> {
     let (front, tip) = text.split_once(TIP)?;
     let (_, rest) = tip.split_once(EMPTY_LINE)?;
     Some((front, rest))
 }
 
 /// How an option is written, with the name of its value.
-fn usage<'a>(option: ImageOption) -> &'a str
-    ensures { result.now ≡ usage_of option }
-{
+fn usage<'a>(option: ImageOption) -> &'a str {
     match option {
         ImageOption::Device => "--device <NUMBER>",
         ImageOption::Mask => "--mask <BYTE>",

@@ -1,11 +1,7 @@
 //! The words of listings, needs and notes, and the names of commands, with what each means.
 
-ghost use Rattle.std.specs.Prelude.{◌≡◌, ◌↔◌, IfSome, IsErr, IsTrue, None, false, true};
-ghost use Rattle.std.specs.List.{All};
+ghost use Rattle.std.specs.Prelude.{◌≡◌, ◌↔◌, IsErr, false, true};
 ghost use Rattle.chan_run.specs.Outcome.{IsWriteFailure};
-ghost use Rattle.chan_run.specs.OutputWords.{AreDefinitionsListed, IsFirstDefinition};
-ghost use Rattle.chan_run.specs.OutputWords.{IsDefinitionOf, definition_line, definition_texts};
-ghost use Rattle.chan_run.specs.Texts.{WriterGot};
 
 use crate::failure::Failure;
 use crate::outcome::Outcome;
@@ -130,9 +126,7 @@ pub(crate) const OUTPUT_WORDS: [&'static str; 112] = [
 ];
 
 /// Whether a definition is that of a word, in upper or lower case.
-fn is_definition_of(definition: &str, word: &str) -> bool
-    ensures { IsTrue result ↔ IsDefinitionOf word.now definition.now }
-{
+fn is_definition_of(definition: &str, word: &str) -> bool {
     let (definition, word) = (definition.as_bytes(), word.as_bytes());
     match definition.get(..word.len()) {
         Some(front) => front.eq_ignore_ascii_case(word)
@@ -142,12 +136,7 @@ fn is_definition_of(definition: &str, word: &str) -> bool
 }
 
 /// The first of these definitions that is that of a word.
-pub(crate) fn definition_for(definitions: &[&'static str], word: &str) -> Option<&'static str>
-    ensures some { IfSome result
-        (λ first. IsFirstDefinition word.now (definition_texts definitions.now) first.now) }
-    ensures none { result ≡ None
-        → All (λ text. ¬ IsDefinitionOf word.now text) (definition_texts definitions.now) }
-{
+pub(crate) fn definition_for(definitions: &[&'static str], word: &str) -> Option<&'static str> {
     match definitions {
         [] => None,
         [first, rest @ ..] => {
@@ -165,8 +154,6 @@ pub(crate) fn write_definition<W: Write>(
     to: &mut Watched<W>,
 ) -> Result<(), DeviceFault>
     requires { to.old.failed ≡ false }
-    ensures said { WriterGot (definition_line definition.now)
-        (W.contents to.old.device) (W.contents to.new.device) to.new.failed }
     ensures fault { IsErr result ↔ (to.new.failed ≡ true) }
 {
     write_texts(&[definition, "\n"], to)
@@ -178,8 +165,6 @@ pub(crate) fn list_definitions<W: Write>(
     to: &mut Watched<W>,
 ) -> Outcome
     requires { to.old.failed ≡ false }
-    ensures answer { AreDefinitionsListed (definition_texts definitions.now)
-        (W.contents to.old.device) (W.contents to.new.device) result }
     ensures write { IsWriteFailure result ↔ (to.new.failed ≡ true) }
 {
     for definition in definitions {

@@ -1,9 +1,7 @@
 //! What is said of a word that is a command code, as `07`, a file mask, as `mask 98`, or flags, as
 //! `-CL--0`.
 
-ghost use Rattle.std.specs.Prelude.{◌≡◌, ◌≤◌, ◌↔◌, IfOk, IsSome, IsTrue, codes, length, nat_eq};
-ghost use Rattle.std.specs.List.{starts_with};
-ghost use Rattle.chan_run.specs.Spelled.{IsSpelled, SpellsByte, is_flag, is_flags, spelled_digits};
+ghost use Rattle.std.specs.Prelude.{◌≤◌, IsTrue, length};
 
 use crate::output_words::{OUTPUT_WORDS, definition_for};
 use ccw_core::Ccw;
@@ -13,24 +11,19 @@ use std::alloc::{AllocError, Global};
 use std::fmt::Write as _;
 
 /// The byte that two hexadecimal digits of either case spell.
-fn spelled_byte(digits: &[u8]) -> Option<[u8; 1]>
-    ensures { IsSome result ↔ SpellsByte digits.now }
-{
+fn spelled_byte(digits: &[u8]) -> Option<[u8; 1]> {
     <[u8; 1]>::from_hex(digits).ok()
 }
 
 /// Whether a word names a file mask.
 fn names_mask(word: &[u8]) -> bool
-    ensures named { result ≡ starts_with nat_eq word.now (codes "mask ") }
     ensures long { IsTrue result → 5 ≤ length word.now }
 {
     word.starts_with(b"mask ")
 }
 
 /// The digits of a mask, or of a code.
-fn digits_of(word: &[u8]) -> &[u8]
-    ensures { result.now ≡ spelled_digits word.now }
-{
+fn digits_of(word: &[u8]) -> &[u8] {
     if names_mask(word) { &word[5..] } else { word }
 }
 
@@ -126,16 +119,12 @@ fn mask_text(alloc: Global, byte: u8) -> Result<String, AllocError> {
 }
 
 /// Whether a byte is a flag that is off, or on by its letter.
-fn is_flag(letter: u8, byte: u8) -> bool
-    ensures { result ≡ is_flag letter byte }
-{
+fn is_flag(letter: u8, byte: u8) -> bool {
     byte == b'-' || byte == letter
 }
 
 /// Whether a word has the flags of a listing.
-fn is_flags(word: &[u8]) -> bool
-    ensures { result ≡ is_flags word.now }
-{
+fn is_flags(word: &[u8]) -> bool {
     match word {
         [d, c, l, s, p, low] => {
             is_flag(b'D', *d)
@@ -180,17 +169,13 @@ fn flags_text(alloc: Global, word: &[u8]) -> Result<String, AllocError> {
 }
 
 /// The byte of a word that is a command code or a file mask.
-fn byte_of(word: &[u8]) -> Option<u8>
-    ensures { IsSome result ↔ SpellsByte (spelled_digits word.now) }
-{
+fn byte_of(word: &[u8]) -> Option<u8> {
     let bytes = spelled_byte(digits_of(word))?;
     Some(bytes[0])
 }
 
 /// The line on a word, if it is a command code, a file mask or flags. Tests hold the wording.
-pub(crate) fn spelled_text(alloc: Global, word: &[u8]) -> Result<Option<String>, AllocError>
-    ensures { IfOk result (λ text. IsSome text ↔ IsSpelled word.now) }
-{
+pub(crate) fn spelled_text(alloc: Global, word: &[u8]) -> Result<Option<String>, AllocError> {
     let Some(byte) = byte_of(word) else {
         return Ok(if is_flags(word) {
             Some(flags_text(alloc, word)?)

@@ -1,8 +1,7 @@
 //! The words of verdicts, of refused decks and of failures.
 
-ghost use Rattle.std.specs.Prelude.{◌≡◌, IfSome, None};
-ghost use Rattle.std.specs.List.{All};
-ghost use Rattle.chan_run.specs.Terms.{IsWordOf, word_of_cause, word_of_term};
+ghost use Rattle.std.specs.Prelude.{◌≡◌};
+ghost use Rattle.chan_run.specs.Terms.{word_of_cause};
 
 use crate::failure::Failure;
 use chan_deck::Cause;
@@ -66,18 +65,12 @@ pub(crate) const TERMS: [Term; 41] = [
 ];
 
 /// The term with this word, in upper or lower case; `None` if there is no such term.
-pub(crate) fn term_of(word: &str) -> Option<Term>
-    ensures named { IfSome result (IsWordOf word.now) }
-    ensures none { result ≡ None → (t : Term) → ¬ IsWordOf word.now t }
-{
+pub(crate) fn term_of(word: &str) -> Option<Term> {
     term_among(&TERMS, word)
 }
 
 /// The first of these terms with this word.
-fn term_among(terms: &[Term], word: &str) -> Option<Term>
-    ensures named { IfSome result (IsWordOf word.now) }
-    ensures none { result ≡ None → All (λ t. ¬ IsWordOf word.now t) terms.now }
-{
+fn term_among(terms: &[Term], word: &str) -> Option<Term> {
     match terms {
         [] => None,
         [first, rest @ ..] => {
@@ -90,9 +83,7 @@ fn term_among(terms: &[Term], word: &str) -> Option<Term>
 }
 
 /// The word of a term.
-pub(crate) fn term_word(term: Term) -> &'static str
-    ensures { result.now ≡ word_of_term term }
-{
+pub(crate) fn term_word(term: Term) -> &'static str {
     match term {
         Term::Reason(reason) => reason.word(),
         Term::Cause(cause) => cause_word(cause),
