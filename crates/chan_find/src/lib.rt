@@ -8,7 +8,6 @@
 //! ```
 #![tactic(auto)]
 
-mod laws;
 mod mark_table;
 mod programs;
 mod trails;

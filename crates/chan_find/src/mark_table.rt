@@ -1,9 +1,6 @@
 //! A flat table of marks: for each doubleword of storage the ways in which its CCW is entered.
 
-ghost use Rattle.std.specs.Prelude.{◌≡◌, ◌/◌, ◌↔◌, ◌<◌, length, IfOk, IsTrue, MatchOption};
-ghost use Rattle.std.specs.Bool.{MatchBool};
-ghost use Rattle.chan_find.specs.Trails.{HasByte, IsMarkedPlace, IsOneMarkMore};
-ghost use Rattle.chan_walk.specs.declared.place.Place as places;
+ghost use Rattle.std.specs.Prelude.{◌<◌, length, IfSome};
 
 use chan_walk::Place;
 use std::alloc::{AllocError, Global};
@@ -17,10 +14,7 @@ pub(crate) struct MarkTable {
 
 impl MarkTable {
     /// The empty set, for storage of this length.
-    pub(crate) fn new(alloc: Global, storage_len: u32) -> Result<MarkTable, AllocError>
-        ensures len { IfOk result (λ t. length t.bytes.items ≡ storage_len / 8) }
-        ensures none { IfOk result (λ t. (p : places.Place) → IsMarkedPlace t.bytes.items p → ⊥) }
-    {
+    pub(crate) fn new(alloc: Global, storage_len: u32) -> Result<MarkTable, AllocError> {
         let mut bytes = Vec::new(alloc);
         bytes.resize((storage_len / 8) as usize, 0)?;
         Ok(MarkTable { bytes })
@@ -28,8 +22,7 @@ impl MarkTable {
 
     /// The index of a place's byte, if there is a CCW.
     fn index_of(&self, place: Place) -> Option<usize>
-        ensures { MatchOption result (HasByte self.now.bytes.items place → ⊥)
-            (λ at. HasByte self.now.bytes.items place × (at ≡ place.address / 8)) }
+        ensures { IfSome result (λ at. at < length self.now.bytes.items) }
     {
         if place.address % 8 != 0 {
             return None;
@@ -43,9 +36,7 @@ impl MarkTable {
     }
 
     /// Whether a place is marked.
-    pub(crate) fn has(&self, place: Place) -> bool
-        ensures { IsTrue result ↔ IsMarkedPlace self.now.bytes.items place }
-    {
+    pub(crate) fn has(&self, place: Place) -> bool {
         match self.index_of(place) {
             Some(at) => (self.bytes[at] >> place.way()) & 1 == 1,
             None => false,
@@ -53,14 +44,7 @@ impl MarkTable {
     }
 
     /// Marks a place, unless it is marked already or holds no CCW, and says whether it did.
-    pub(crate) fn put(&mut self, place: Place) -> bool
-        ensures len { length self.new.bytes.items ≡ length self.old.bytes.items }
-        ensures put { MatchBool result
-            (IsOneMarkMore place self.old.bytes.items self.new.bytes.items)
-            (self.new.bytes.items ≡ self.old.bytes.items) }
-        ensures marked { HasByte self.old.bytes.items place
-            → IsMarkedPlace self.new.bytes.items place }
-    {
+    pub(crate) fn put(&mut self, place: Place) -> bool {
         let Some(at) = self.index_of(place) else {
             return false;
         };

@@ -1,19 +1,11 @@
 //! Finds the programs in storage whose starts aren't known.
 
-ghost use Rattle.std.specs.Prelude.{IsTrue, IfOk, OnOk, IsSomeAnd, ◌↔◌};
+ghost use Rattle.std.specs.Prelude.{IsTrue, IfOk, OnOk};
 ghost use Rattle.ccw_core.specs.Held.{bytes_held};
-ghost use Rattle.chan_find.specs.Trails.{AreRoots, IsStartOffered, IsFullyCovered};
-ghost use Rattle.chan_walk.specs.Look.{IsLook};
-ghost use Rattle.chan_walk.specs.OpenJob.{open_job};
-ghost use Rattle.chan_find.specs.Programs as program;
-ghost use Rattle.chan_find.specs.Programs.{AreProgramStarts, HasSecondFrom, HasTwoCcws, IsJobOver};
-ghost use Rattle.chan_find.specs.Programs.{IsLedTo, IsLikely, IsPlainPlace, IsSecondCcw};
-ghost use Rattle.chan_find.specs.Programs.{LeadToNoOther};
-ghost use Rattle.chan_walk.specs.Verdict.{IsVerdict};
-ghost use Rattle.chan_walk.specs.declared.job.Job.{Job};
-ghost use Rattle.chan_walk.specs.declared.verdict.Verdict.TheVariants as verdict;
+ghost use Rattle.ccw_core.specs.Storage.{Stands};
+ghost use Rattle.chan_walk.specs.Job.{storage_of};
+ghost use Rattle.chan_find.specs.Programs.{AreStarts, IsOffered};
 
-use crate::laws::{programs_are_separate, yes_is_likely};
 use crate::trails::{Covered, is_plain, start_at};
 use ccw_core::Storage;
 use chan_walk::{Job, Limit, Look, OpenJob, Place, look_at};
@@ -22,9 +14,7 @@ use std::alloc::{AllocError, Global};
 
 /// Whether a place holds a second CCW: the place is plain, not a transfer, and not at the start's
 /// address.
-fn is_second(look: &Look, start: u32) -> bool
-    ensures { (j : Job) → IsLook j look.now → IsTrue result ↔ IsSecondCcw j start look.now.place }
-{
+fn is_second(look: &Look, start: u32) -> bool {
     match look.ccw() {
         Some(ccw) => is_plain(look) && !ccw.is_transfer() && look.place().address != start,
         None => false,
@@ -32,9 +22,7 @@ fn is_second(look: &Look, start: u32) -> bool
 }
 
 /// Whether there is a place, and it holds a second CCW.
-fn is_second_at(job: &Job, start: u32, place: Option<Place>) -> bool
-    ensures { IsTrue result ↔ IsSomeAnd place (IsSecondCcw job.now start) }
-{
+fn is_second_at(job: &Job, start: u32, place: Option<Place>) -> bool {
     match place {
         Some(place) => is_second(&look_at(job, place), start),
         None => false,
@@ -42,9 +30,7 @@ fn is_second_at(job: &Job, start: u32, place: Option<Place>) -> bool
 }
 
 /// Whether there is a plain place, and it or a successor holds a second CCW.
-fn has_second_from(job: &Job, start: u32, place: Option<Place>) -> bool
-    ensures { IsTrue result ↔ IsSomeAnd place (HasSecondFrom job.now start) }
-{
+fn has_second_from(job: &Job, start: u32, place: Option<Place>) -> bool {
     let Some(place) = place else {
         return false;
     };
@@ -62,7 +48,7 @@ fn has_second_from(job: &Job, start: u32, place: Option<Place>) -> bool
 /// Whether the CCW at an address, by two of its bytes alone, may be a plain start: its code is the
 /// code of a command and its byte 5 is zero. Most data fails here, before a look.
 fn may_be_plain(job: &Job, start: u32) -> bool
-    ensures { IsPlainPlace job.now (program.start_at start) → IsTrue result }
+    ensures { IsTrue result → Stands (storage_of job.now) start }
 {
     match job.storage.ccw_at(start) {
         Some(ccw) => ccw.spare() == 0 && lookup(ccw.command()).is_some(),
@@ -72,7 +58,7 @@ fn may_be_plain(job: &Job, start: u32) -> bool
 
 /// Whether a start is likely: it is plain, and there is a second CCW one or two successors on.
 fn is_likely(job: &Job, start: u32) -> bool
-    ensures { IsTrue result ↔ IsLikely job.now start }
+    ensures { IsTrue result → Stands (storage_of job.now) start }
 {
     if !may_be_plain(job, start) {
         return false;
@@ -93,11 +79,7 @@ fn offer(
     start: u32,
     taken: &mut Vec<u32>,
 ) -> Result<(), AllocError>
-    requires { IsFullyCovered job.now covered.old }
-    ensures settled { OnOk result (IsFullyCovered job.now covered.new) }
-    ensures offered { OnOk result (IsStartOffered job.now start
-        covered.old.marks.bytes.items taken.old.items
-        covered.new.marks.bytes.items taken.new.items) }
+    ensures { OnOk result (IsOffered (storage_of job.now) start taken.old.items taken.new.items) }
 {
     if covered.has(start_at(start)) || !is_likely(job, start) {
         return Ok(());
@@ -109,7 +91,7 @@ fn offer(
 
 /// The likely starts to which no lower likely start leads, in order.
 fn roots(alloc: Global, job: &Job) -> Result<Vec<u32>, AllocError>
-    ensures { IfOk result (λ v. AreRoots job.now v.items) }
+    ensures { IfOk result (λ v. AreStarts (storage_of job.now) v.items) }
 {
     let mut covered = Covered::new(alloc, job)?;
     let mut roots = Vec::new(alloc);
@@ -124,8 +106,8 @@ fn roots(alloc: Global, job: &Job) -> Result<Vec<u32>, AllocError>
 /// The starts of a list to which no higher start of the list leads, in order; it goes through them
 /// from the highest down.
 fn highest_apart(alloc: Global, job: &Job, roots: Vec<u32>) -> Result<Vec<u32>, AllocError>
-    requires { AreRoots job.now roots.items }
-    ensures { IfOk result (λ v. AreProgramStarts job.now v.items) }
+    requires { AreStarts (storage_of job.now) roots.items }
+    ensures { IfOk result (λ v. AreStarts (storage_of job.now) v.items) }
 {
     let mut rest = roots;
     let mut covered = Covered::new(alloc, job)?;
@@ -139,7 +121,7 @@ fn highest_apart(alloc: Global, job: &Job, roots: Vec<u32>) -> Result<Vec<u32>, 
 
 /// The starts of the programs of a job's storage.
 fn starts_of(alloc: Global, job: &Job) -> Result<Vec<u32>, AllocError>
-    ensures { IfOk result (λ v. AreProgramStarts job.now v.items) }
+    ensures { IfOk result (λ v. AreStarts (storage_of job.now) v.items) }
 {
     let roots = roots(alloc, job)?;
     highest_apart(alloc, job, roots)
@@ -150,7 +132,8 @@ fn starts_of(alloc: Global, job: &Job) -> Result<Vec<u32>, AllocError>
 ///
 /// A program starts at a likely start to which no likely start from outside leads; of starts that
 /// lead to each other, the lowest counts. The start of a job with a yes is in the list, or a start
-/// of the list leads to it, unless its program has a single CCW or a byte 5 that isn't zero.
+/// of the list leads to it, unless its program has a single CCW or a byte 5 that isn't zero. It is
+/// proved that a CCW stands at each start; the rest is shown by tests.
 ///
 /// `AllocError` comes only if a growth was refused. The call takes memory for a byte for each
 /// doubleword of storage, for the list, and for the places from which it has yet to step on. With n
@@ -160,16 +143,8 @@ pub fn program_starts(
     storage: &Storage,
     device: Device,
 ) -> Result<Vec<u32>, AllocError>
-    ensures starts { IfOk result (λ v. (j : Job) → IsJobOver (bytes_held storage.now) device j
-        → AreProgramStarts (open_job j) v.items) }
-    ensures separate { IfOk result (λ v. (j : Job) → IsJobOver (bytes_held storage.now) device j
-        → LeadToNoOther (open_job j) v.items) }
-    ensures yes { IfOk result (λ v. (j : Job) → IsJobOver (bytes_held storage.now) device j
-        → IsVerdict (open_job j) verdict.Yes → HasTwoCcws (open_job j)
-        → IsLedTo (open_job j) v.items j.start) }
+    ensures { IfOk result (λ v. AreStarts (bytes_held storage.now) v.items) }
 {
-    programs_are_separate();
-    yes_is_likely();
     let open = OpenJob::over(alloc, *storage, 0, device, Limit::usual())?;
     starts_of(alloc, &open.job())
 }

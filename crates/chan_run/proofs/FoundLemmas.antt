@@ -1,9 +1,7 @@
 -- The lines of programs that are found, one after another.
 use Rattle.std.proofs.Common.{◌≡◌, ◌∙◌, ◌<◌, ◌++◌, ◌∷◌, [], List, ap, arith, append_assoc, append-nil, length, refl, slice_index_or, suc, sym, take, zero, ℕ}
 use Rattle.chan_deck.specs.PartsImage.{storage_with}
-use Rattle.chan_walk.specs.declared.job.Job.{Job}
-use Rattle.chan_walk.specs.OpenJob.{open_job}
-use Rattle.chan_find.specs.Programs.{AreProgramStarts, IsJobOver}
+use Rattle.chan_find.specs.Programs.{AreStarts}
 use Rattle.chan_run.specs.Find.{AreLines, AreStartsInImage}
 use Rattle.chan_run.specs.declared.image_options.ImageOptions.{ImageOptions}
 
@@ -22,10 +20,7 @@ lines_more IsLine (x ∷ xs) (suc i) d text line lt (first, rest, at, are, joins
   ap (λ t. t ++ line) joins ∙ append_assoc first rest line,
 )
 
--- the starts of the programs over storage that holds an image are those in the image
+-- starts of programs over storage that holds an image are starts in the image
 pub starts_over : (o : ImageOptions) (image held starts items : List ℕ)
-    → held ≡ storage_with o.at image → items ≡ starts
-    → ((j : Job) → IsJobOver held o.device j → AreProgramStarts (open_job j) starts)
-    → AreStartsInImage o image items
-starts_over o image held starts items is same are j over =
-    rw same (are j (record { storage = over.storage ∙ sym is; device = over.device }))
+    → held ≡ storage_with o.at image → items ≡ starts → AreStarts held starts → AreStartsInImage o image items
+starts_over o image held starts items is same are = rw (same, sym is) are

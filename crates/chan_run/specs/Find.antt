@@ -9,8 +9,8 @@ use Rattle.chan_walk.specs.declared.job.Job.{Job}
 use Rattle.chan_walk.specs.declared.verdict.Verdict.{Verdict}
 use Rattle.chan_walk.specs.Answers.{IsAnswer}
 use Rattle.chan_walk.specs.Places.{HasMoreThan}
-use Rattle.chan_walk.specs.OpenJob.{open_job, IsOpenJob}
-use Rattle.chan_find.specs.Programs.{AreProgramStarts, IsJobOver}
+use Rattle.chan_walk.specs.OpenJob.{IsOpenJob}
+use Rattle.chan_find.specs.Programs.{AreStarts}
 use Rattle.chan_run.specs.Image.{IsNoImage, IsProgramAt, IsWholeImage}
 use Rattle.chan_run.specs.ImageNote.{deck_note, find_note}
 use Rattle.chan_run.specs.Output.{IsUnwritten}
@@ -52,11 +52,9 @@ AreLines IsLine (x ∷ xs) text =
 abbrev pub AreLinesAt : ImageOptions → List ℕ → List ℕ → List ℕ → Type 0
 AreLinesAt o image = AreLines (IsLineAt o image)
 
--- the starts of all programs in an image
+-- starts of programs in an image
 abbrev pub AreStartsInImage : ImageOptions → List ℕ → List ℕ → Type 0
-AreStartsInImage o image starts =
-    (j : Job) → IsJobOver (storage_with o.at image) o.device j
-    → AreProgramStarts (open_job j) starts
+AreStartsInImage o image = AreStarts (storage_with o.at image)
 
 -- the lines of the first programs in an image were written so
 pub record AreWritten (Wrote : List ℕ → Type 0) (o : ImageOptions) (image : List ℕ)

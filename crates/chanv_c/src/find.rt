@@ -34,9 +34,9 @@ pub extern "C" fn chanv_find(
     count: &mut usize,
 ) -> u32
     ensures found { result ≡ YES
-        → AreFoundIn storage.now.bytes.now device count.new starts.old starts.new }
+        → AreFoundIn storage.now.bytes.now count.new starts.old starts.new }
     ensures room { result ≡ NO_ROOM
-        → HasPrograms storage.now.bytes.now device count.new × (length starts.old < count.new) }
+        → HasPrograms storage.now.bytes.now count.new × (length starts.old < count.new) }
     ensures kept { result ≢ YES → starts.new ≡ starts.old }
     ensures large { result ≡ STORAGE_TOO_LARGE → STORAGE_LIMIT < length storage.now.bytes.now }
     ensures small { result ≢ STORAGE_TOO_LARGE → length storage.now.bytes.now ≤ STORAGE_LIMIT }

@@ -35,7 +35,7 @@ returns-then-is_err-clause-answer g c =
     let (sound, (text, lines, app)) = c.loop-start.invariant in
     let line = string_bytes c.in-Ok-program_line.line in (
       starts.result.now,
-      starts_over o image _ _ _ held starts.ensures.value c.in-Ok-program_starts.ensures.starts,
+      starts_over o image _ _ _ held starts.ensures.value c.in-Ok-program_starts.ensures,
       suc c.loop-start.start-index,
       record {
         text = text ++ line;
@@ -55,7 +55,7 @@ returns-in_default-program_line-clause-answer g c =
     let (sound, (text, lines, app)) = c.loop-start.invariant in
     inr (
       starts.result.now,
-      starts_over o image _ _ _ held starts.ensures.value c.in-Ok-program_starts.ensures.starts,
+      starts_over o image _ _ _ held starts.ensures.value c.in-Ok-program_starts.ensures,
       c.loop-start.start-index,
       record { text = text; lines = lines; written = app },
     )
@@ -68,7 +68,7 @@ returns-clause-answer g c =
     let starts = c.as_slice-start-items in
     let (sound, (text, lines, app)) = c.loop-start.invariant in (
       starts.result.now,
-      starts_over o image _ _ _ held starts.ensures.value c.in-Ok-program_starts.ensures.starts,
+      starts_over o image _ _ _ held starts.ensures.value c.in-Ok-program_starts.ensures,
       record { text = text; lines = rw (take_all _ _ c.loop-start-test.false) at lines; written = app },
     )
 
@@ -79,6 +79,6 @@ returns-clause-note g c =
     let held : bytes_held c.unwrap-storage.result ≡ storage_with o.at image = search rules in
     let starts = c.as_slice-start-items in (
       starts.result.now,
-      starts_over o image _ _ _ held starts.ensures.value c.in-Ok-program_starts.ensures.starts,
+      starts_over o image _ _ _ held starts.ensures.value c.in-Ok-program_starts.ensures,
       search rules,
     )
