@@ -59,7 +59,7 @@ REFUSED = {
 
 
 def make_inputs(folder):
-    """A file for each input, in an empty folder, and an image of storage, `core`."""
+    """A file for each input, in an empty folder, an image of storage, `core`, and a file `help`."""
     deck = text_of(SEARCH_LOOP)
     (folder / "folder").mkdir()
     for name, example in DECKS.items():
@@ -68,7 +68,7 @@ def make_inputs(folder):
     limited = deck.replace("\nextent", "\nlimit 00002\nextent")
     (folder / "many").write_text(limited.replace("deck 1", "deck 2"))
     (folder / "core").write_bytes((EXAMPLES / "core.bin").read_bytes())
-    for name in ("empty", "no right", "long"):
+    for name in ("empty", "no right", "long", "help"):
         (folder / name).touch()
     os.truncate(folder / "long", MOST_BYTES + 1)
 

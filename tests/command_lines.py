@@ -108,11 +108,14 @@ def runs():
         yield from over_each(action.split(), [*names, *REFUSED], partial(answer, action))
     for action, pair in product(("verify", "why", "list", "needs"), product(PAIRED, PAIRED)):
         yield [action, *pair], "closed", answers(action, pair, "closed")
-    # the deck `no` offends at 000808 alone
+    # the deck `no` offends at 000808 alone, and `changes` at 000810
     no, absent = answer("why", "no"), "note: no offence at 000810\n"
     yield from over_each(["why", "--of", "808"], ["no", *REFUSED], partial(answer, "why"))
     yield ["why", "--of", "810"], "no", [no._replace(error=f"{absent}{no.error}")]
     yield ["why", "--of", "810"], "yes", [Ran(0, "yes\n", absent)]
+    offence = answer("why", "changes", "changes", is_among=True)
+    of_two = [offence, Ran(0, YES, f"yes: {absent}")]
+    yield ["why", "--of", "810", "changes", "yes"], "closed", of_two
     for words in OF_IMAGE:
         action, *options = words.split()
         part_of = partial(of_image, action)

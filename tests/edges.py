@@ -1,4 +1,4 @@
-"""The longest deck, most places, each kind of note, and most notes of a kind."""
+"""The longest deck, most places, each kind of note, most notes of a kind, and high addresses."""
 
 import re
 from itertools import product
@@ -28,12 +28,24 @@ no 000810 store-not-lent
 {SEARCH.format(".")}000810 fresh - * 06 000A00 --L--0 00 0050 read read-data
 because none of 000A00-000A4F is lent for storing
 """
+FRONT = "000A00-000A0F of 000A00-000A4F is not lent"
+NOT_WHOLLY_STORED = NOT_STORED.replace("none of 000A00-000A4F is lent", FRONT)
+CHAINED_NOT_STORED = f"""\
+no 000818 store-not-lent
+{SEARCH.format(".")}000810 fresh - . 06 000A00 D----0 00 0050 read read-data
+000818 in - * 00 000B00 -----0 00 0010 invalid chained
+because none of 000B00-000B0F is lent for storing
+"""
 STORING = "note: the whole range is lent, but for storing\n"
 FETCHING = "note: the whole range is lent, but for fetching\n"
 
 # how the notes on CCWs and areas go on
 INTERRUPTS = "interrupts: the processor may then change any byte not listed as keep by chanv needs"
 ENDS = "ends the program: chain data is on, and the command moves no data"
+HANGS = (
+    "from {} (entered {}) on the program never ends by itself: "
+    "only an error, an incorrect length or a Halt I/O stops it"
+)
 IGNORED = "in byte 5, which the channel ignores; flags are in byte 4"
 PAST, UNUSED = "reaches past storage", "is used by no reachable CCW"
 
@@ -109,6 +121,7 @@ def rows_of_exchanged():
         (["store 000905 000010"], NOT_FETCHED, f"{UNSEEN}\n"),
         (["fetch 000900 000200"], NOT_STORED, FETCHING),
         (["fetch 000900 00014F"], NOT_STORED, ""),
+        (["fetch 000900 000005", "store 000A10 000100"], NOT_WHOLLY_STORED, ""),
     ]:
         yield over(deck_of(LOOP, areas, 0x1000), Ran(1, output, error), "why", about=f"{areas}")
     deck, verdict = deck_of(LOOP, exchanged, 0x1000), NOT_FETCHED.splitlines(True)[0]
@@ -116,6 +129,10 @@ def rows_of_exchanged():
     yield over(deck, Ran(1, verdict), "verify")
     yield over(deck, Ran(1, SEARCH.format("*") + verdict), "list")
     yield over(deck, Ran(0, needs), "needs")
+    # the note comes if a data chain enters the CCW without a transfer
+    chained = [*LOOP[:2], "06000A0080000050", "00000B0000000010"]
+    areas = ["fetch 000900 000005", "fetch 000B00 000010", "store 000A00 000050"]
+    yield over(deck_of(chained, areas, 0x1000), Ran(1, CHAINED_NOT_STORED, FETCHING), "why")
     # a write's data chain that a transfer leads to the CCW of a read isn't a matter of the areas
     fetching = re.compile(r"no \w{6} fetch-not-lent\n(.+\n)+")
     yield over(two_ways_deck(), Ran(1, fetching, f"{UNSEEN}\n"), "why")
@@ -152,13 +169,68 @@ def rows_of_notes():
     for last in ("03000000C0FF0001", "0300000080FF0001"):
         deck = deck_of(["0300000048010001", last], LENT_IN_VAIN, 0x1000, start=0x40)
         yield over(deck, YES._replace(error=noted(NOTES)), "why")
+    # a loop without an end at the same place
+    loop, notes = deck_of([CHAINED, "0800004000000000"], start=0x40), [NOTES[4]]
+    notes += [HANGS.format("000040", "fresh")]
+    yield over(loop, YES._replace(error=noted(notes)), "why")
+    # a loop of data chains, which a read at 000810 enters through a transfer
+    ccws = ["03000A0080000001", "0800080000000000", "06000A0080000001", "0800080000000000"]
+    loop = deck_of(ccws, ["store 000A00 000001"]).replace("start 000800", "start 000810")
+    yield over(loop, YES._replace(error=noted([HANGS.format("000800", "in")])), "why")
     more_of = {99: "", 100: "", 101: "note: 1 more such\n", 250: "note: 150 more such\n"}
     for count, more in more_of.items():
         for deck, notes in many_noted(count, more):
             yield over(deck, YES._replace(error=notes), "why", about=f"{count} notes")
 
 
+# a program that goes on in what it reads; one that stores over its seek's argument, whose last
+# range is a single address; and notes
+READS_IN = """\
+no 123500 invalid-code
+123400 fresh t . 06 123500 -C---0 00 0050 read read-data
+123408 fresh - . 08 123500 -----0 00 0000 transfer transfer-in-channel
+123500 fresh t * 00 000000 -----0 00 0000 invalid unknown
+because code 00 is invalid
+stored over by 123400: what will stand there is not judged
+"""
+STORES_OVER = """\
+no 123410 changes-argument
+123400 fresh t . 07 123418 D----0 00 0005 control seek (cylinder 10, head 0)
+123408 out - . 00 123420 -C---0 00 0001 invalid chained
+123410 fresh - * 06 123418 -----0 00 0010 read read-data
+because it stores 123418-123427, over 123418 of the argument 123418-12341C, 123420 of 123400
+reached by
+123400 fresh t * 07 123418 D----0 00 0005 control seek (cylinder 10, head 0)
+"""
+HIGH_NOTES = [
+    f"store 1FFFF8 000010 {PAST}",
+    f"fetch 1FFFF0 000010 {UNUSED}",
+    f"store 1FFFF8 000010 {UNUSED}",
+    f"123400 {INTERRUPTS}",
+    f"123408 {ENDS}",
+    f"123400 has 01 {IGNORED}",
+]
+
+
+def rows_of_high_addresses():
+    """Far up in storage each address of an explanation, and of a note, has all its six digits."""
+    for ccws, areas, expected in [
+        (["0612350040000050", "0812350000000000"], ["store 123500 000050"], Ran(1, READS_IN)),
+        (
+            ["0712341880000005", "0012342040000001", "0612341800000010", "0000000A00000000"],
+            ["fetch 123418 000009", "store 123418 000010"],
+            Ran(1, STORES_OVER),
+        ),
+        (
+            ["0300000048010001", "0300000080000001"],
+            ["fetch 1FFFF0 000010", "store 1FFFF8 000010"],
+            Ran(0, "yes\n", noted(HIGH_NOTES)),
+        ),
+    ]:
+        yield over(deck_of(ccws, areas, 0x200000, start=0x123400), expected, "why")
+
+
 def check(checks, built):
     checks.expect("the length of the longest deck", MOST_BYTES, len(longest()))
-    for rows in (rows_of_limits, rows_of_exchanged, rows_of_notes):
+    for rows in (rows_of_limits, rows_of_exchanged, rows_of_notes, rows_of_high_addresses):
         check_rows(checks, built.chanv(), rows())

@@ -1,10 +1,12 @@
 """`chanv find` lists the starts that docs/OLD-PROGRAMS.md defines, in many small images.
 
-The definition is read anew here, over the places and faults of model/, and not as the code finds
-the programs. The images are storages of random jobs, two of them in a row, example decks in noise, and
-bytes that are often CCWs. Behind the verdict a line has the number of the program's CCWs and the
-names of its first commands, which are read anew too. Then come large images of one shape each.
-`find` of the package for Python, which calls `chanv_find`, lists the same starts.
+No proof says which starts these are, so this test does. It reads the definition anew, over the
+places and faults of model/, and not as the code finds the programs. The images are storages of
+random jobs, two of them in a row, example decks in noise, and bytes that are often CCWs. After the
+verdict a line has the number of the program's CCWs and the names of its first commands, which are
+read anew too. Then come large images of one shape each. `find` of the package for Python, which
+calls `chanv_find`, lists the same starts, and leads to each start with a yes. Images that were
+written for one part of the definition each have the starts that a reader of the page expects.
 """
 
 import re
@@ -38,6 +40,44 @@ SEED, IMAGES, LIMIT = 43, 2400, 200
 MOST_NAMES = 4
 MOST_STORAGE = 0x1000
 LARGEST = 16_777_216
+
+# a No Operation that chains command and one that doesn't, a search, a read and a search that chain
+# data, and no CCW
+NEXT, LAST, SEARCH = "0300000040000001", "0300000000000001", "3100000040000005"
+READ_ON, SEARCH_ON, NONE = "0600000080000001", "3100000080000001", "0000000000000000"
+
+
+def to(address):
+    """A transfer in channel."""
+    return f"08{address:06X}00000000"
+
+
+# images by doublewords, and the starts that the page defines in each
+WORKED = [
+    ("two programs", [NEXT, LAST, NEXT, LAST], [0, 0x10]),
+    ("one CCW", [LAST], []),
+    ("one CCW that leads to itself", [NEXT, to(0)], []),
+    ("a search loop", [SEARCH, to(0), LAST], [0]),
+    ("a second CCW with a fault", [NEXT, NONE], []),
+    ("byte 5 of the first CCW", ["0300000040010001", LAST], []),
+    ("byte 5 of the second CCW", [NEXT, "0300000000010001"], []),
+    ("byte 5 of a transfer", [NEXT, "0800001000010000", LAST], [0]),
+    ("two starts that lead to each other", [NEXT, to(0x10), NEXT, to(0)], [0]),
+    ("a start that leads to a lower one", [NEXT, LAST, NEXT, to(0)], [0x10]),
+    ("a transfer in the last doubleword", [NEXT, LAST, NEXT, NEXT, to(0)], [0x10]),
+    # in the next three, 0 leads to the last start only if 28, 10 or 30 counts once for each way in
+    (
+        "a transfer after a transfer and after a CCW",
+        [SEARCH, to(0x20), to(0x28), NONE, NEXT, to(0x38), NONE, NEXT, LAST],
+        [0],
+    ),
+    ("a search on a data chain and as a start", [READ_ON, to(0x10), SEARCH, LAST, NEXT, LAST], [0]),
+    (
+        "a CCW on the data chains of a read and of a search",
+        [SEARCH, to(0x20), READ_ON, to(0x30), SEARCH_ON, to(0x30), NEXT, LAST, NEXT, LAST],
+        [0],
+    ),
+]
 
 
 def start_at(address):
@@ -86,10 +126,25 @@ def programs_of(job):
             yield start
 
 
+def with_a_yes(job):
+    """The starts with a yes, two CCWs other than transfers, and byte 5 of each of these zero."""
+    for start in range(0, len(job.storage), 8):
+        answer = Answer(job._replace(start=start))
+        if answer.verdict == "yes" and not answer.is_too_large:
+            ccws = {place.address: ccw_at(job.storage, place.address) for place in answer.faults}
+            spares = [ccw.spare for ccw in ccws.values() if not ccw.is_transfer()]
+            if len(spares) > 1 and not any(spares):
+                yield start
+
+
+def job_over(image, device):
+    storage = image + bytes(-len(image) % 8)
+    return Job(storage, 0, device, 0, [], [], [], LIMIT).opened()
+
+
 def lines_of(image, device):
     """What the page says of an image: a line for each program, with the verdict on it."""
-    storage = image + bytes(-len(image) % 8)
-    job = Job(storage, 0, device, 0, [], [], [], LIMIT).opened()
+    job = job_over(image, device)
     starts = [*programs_of(job)]
     if not starts:
         yield NONE_FOUND.strip()
@@ -192,15 +247,33 @@ NONE_FOUND = (
 
 
 def check_library(checks, chanv, random, storages):
+    count = 0
     for number in range(IMAGES // 20):
-        image = image_of(random, number, storages)
-        image += bytes(-len(image) % 8)
-        wanted = [int(line.split()[0], 16) for line in lines_of(image, 2314) if line[0] != "n"]
-        checks.expect(f"chanv_find over image {number}", wanted, chanv.find(image))
+        job = job_over(image_of(random, number, storages), 2314)
+        found = chanv.find(job.storage)
+        checks.expect(f"chanv_find over image {number}", [*programs_of(job)], found)
+        places = set().union(*(led_to(job, start) for start in found))
+        for start in with_a_yes(job):
+            name = f"a start found in image {number} leads to {start:06X}"
+            checks.expect_that(name, start_at(start) in places, found)
+            count += 1
+    checks.expect_that("there are starts with a yes", count > IMAGES // 200, count)
+
+
+def check_worked(checks, chanv):
+    for name, words, wanted in WORKED:
+        image = bytes.fromhex("".join(words))
+        checks.expect(f"the starts in {name}", wanted, chanv.find(image))
+        checks.expect(f"the definition in {name}", wanted, [*programs_of(job_over(image, 2314))])
+    program, top = bytes.fromhex(NEXT + LAST), LARGEST - 16
+    up, down = (bytes.fromhex(NEXT + to(address)) for address in (top, 0))
     for name, image, device, wanted in [
         ("no byte", b"", 2314, []),
         ("one byte too many", bytes(LARGEST + 1), 2314, 4),
         ("all of storage", bytes(LARGEST), 2311, []),
+        ("programs at both ends", program + bytes(top - 16) + program, 2314, [0, top]),
+        ("a transfer to the top", up + bytes(top - 16) + program, 2314, [0]),
+        ("a transfer from the top", program + bytes(top - 16) + down, 2314, [top]),
         ("another device", bytes(8), 2312, 5),
         ("both", bytes(LARGEST + 1), 0, 4),
         ("an image", (EXAMPLES / "core.bin").read_bytes(), 2314, [0x800]),
@@ -219,7 +292,9 @@ def check(checks, built):
     for device in (2311, 2314):
         check_images(checks, program, device, random, storages)
     check_large(checks, program)
-    check_library(checks, package(built), random, storages)
+    chanv = package(built)
+    check_library(checks, chanv, random, storages)
+    check_worked(checks, chanv)
     wanted = "000800 no 000818 changes-argument 4 CCWs: seek, search-id-equal, read-data\n"
     note = "note: no --device, so 2314\n"
     ran = run(program, "find", EXAMPLES / "core.bin")

@@ -7,11 +7,11 @@
 The model is in model/: the channel and the disk (channel), the verdict and the needs (judging), the
 machine (stepping), the texts (writing) and the jobs (making). It was written from DEVICE, VERDICT,
 MACHINE, DECK and OUTPUT, and from no code of the crates. It has to agree on the verdict, on
-all offences, on the needs, on the listing, on the path to the verdict's place and to every other
-that offends, on the path to what is changed there, and on where each job may hang. Then it steps
-the machine over the job: after a yes all runs are safe and no byte that one uses changes, and after
-a no a run shows the reason at its address. Every third job is an example deck with a changed byte.
-The verdicts of the example decks themselves are the model's too.
+all offences and their causes, on the needs, on the listing, on the path to the verdict's place and
+to every other that offends, on the path to what is changed there, and on where each job may hang.
+Then it steps the machine over the job: after a yes all runs are safe and no byte that one uses
+changes, and after a no a run shows the reason at its address. Every third job is an example deck
+with a changed byte. The verdicts of the example decks themselves are the model's too.
 """
 
 import argparse
@@ -25,6 +25,7 @@ from random import Random
 sys.dont_write_bytecode = True
 
 from building import HERE, Built, short  # noqa: E402
+from causes import cause_of  # noqa: E402
 from examples import FOLDERS, TEXTS, decks_of, verdicts_of  # noqa: E402
 from expecting import carry_out, finish  # noqa: E402
 from running import run, run_in_bash, text_of  # noqa: E402
@@ -57,8 +58,8 @@ PAST_ADDRESSES = 0x1000000
 
 # `why --of` over each of some decks, after its address, and its status
 OF = 'while [ $# -gt 1 ]; do "$0" why --of "$1" "$2" 2>&1; echo "status $?"; shift 2; done'
-# what `why` says of the same offence, if it isn't the verdict
-ALSO = re.compile(r"also (\w+) ([a-z-]+)")
+# what begins the lines of `why --all` on each offence and its cause
+OFFENDS = "yes", "no ", "also ", "because "
 
 # a command over each of some decks, and its status
 EACH = 'run="$1 $2"; shift 2; for deck; do $run "$deck" 2>&1; echo "status $?"; done'
@@ -74,10 +75,16 @@ class Answer:
         self.verdict = verdict_of(self.found)
 
     def all_offences(self):
-        """The verdict, and a line for each other address and reason that offend."""
+        """The verdict, a line for each other address and reason that offend, and each cause."""
+        yield self.verdict
         pairs = dict.fromkeys((place.address, reason) for place, reason in self.found)
-        also = [f"also {address:06X} {reason}" for address, reason in [*pairs][1:]]
-        return [self.verdict, *also]
+        for number, (address, reason) in enumerate(pairs):
+            yield from [f"also {address:06X} {reason}"] * (number > 0)
+            yield self.cause_of(address, reason)
+
+    def cause_of(self, address, reason):
+        places = {at for at, why in self.found if (at.address, why) == (address, reason)}
+        return cause_of(self.job, self.faults, places, reason)
 
     def least_reason(self, address):
         """The first of the reasons by which an address offends."""
@@ -113,8 +120,8 @@ def check_job(checks, path, answer, verified, explained, listed):
         checks.expect(f"verify {name}", ["too many places"], verified)
         return
     checks.expect(f"verify {name}", [answer.verdict], verified)
-    offending = [line for line in explained if line.startswith(("yes", "no ", "also "))]
-    checks.expect(f"why --all {name}", answer.all_offences(), offending)
+    offending = [line for line in explained if line.startswith(OFFENDS)]
+    checks.expect(f"why --all {name}", [*answer.all_offences()], offending)
     listing = listing_of(answer.job, answer.faults, answer.found)
     checks.expect(f"list {name}", [*listing, f"status {1 if answer.found else 0}"], listed)
 
@@ -145,7 +152,7 @@ def check_wide(checks, path, answer, listed):
         checks.expect(f"list --wide {path.stem}", [*wanted, status], listed)
 
 
-def check_explained(checks, program, answers, explained):
+def check_explained(checks, program, answers):
     """`why --of ADDRESS` has the verdict, and the path, the cause and the second path of the
     offence at ADDRESS, of several the one with the least reason; and no line `also`. If no offence
     is at ADDRESS, a note says so, and all is as without the option."""
@@ -153,11 +160,10 @@ def check_explained(checks, program, answers, explained):
     for path, answer in answers.items():
         if answer.is_too_large:
             continue
-        causes = causes_in(explained[str(path)])
         addresses = sorted({place.address for place, _ in answer.found})
         for address in [it for it in addresses if it < PAST_ADDRESSES][:MOST_ASKED]:
             asked.append((address, path))
-            wanted.append([*lines_of_offence(answer, address, causes)])
+            wanted.append([*lines_of_offence(answer, address)])
         others = {place.address for place in answer.faults} - {*addresses}
         for address in sorted(others)[:1]:
             asked.append((address, path))
@@ -185,26 +191,14 @@ def check_explained(checks, program, answers, explained):
     return sum(lines is not None for lines in wanted)
 
 
-def causes_in(explained):
-    """The causes that `why --all` gives, by address and reason."""
-    causes, pair = {}, None
-    for line in explained:
-        words = line.split(" ")
-        if words[0] in ("no", "also"):
-            pair = words[1], words[2]
-        elif words[0] == "because":
-            causes.setdefault(pair, line)
-    return causes
-
-
-def lines_of_offence(answer, address, causes):
+def lines_of_offence(answer, address):
     """What `why` writes of the offence at an address, behind the verdict."""
     reason = answer.least_reason(address)
     [found] = [[it for it in answer.found if (it[0].address, it[1]) == (address, reason)]]
     rows = [*path_of(answer.job, answer.faults, found)]
     over = [rows.pop()] if rows[-1].startswith("stored over by ") else []
     yield from rows
-    yield causes[f"{address:06X}", reason]
+    yield answer.cause_of(address, reason)
     yield from over
     yield from second_path_of(answer.job, answer.faults, found)
 
@@ -299,10 +293,9 @@ def compare(checks, built, seed, count):
         wide = answers_of_each(program, "list --wide", answers)
         for (path, answer), lines in zip(answers.items(), wide, strict=True):
             check_wide(checks, path, answer, lines)
-        asked = check_explained(checks, program, answers, explained)
+        asked = check_explained(checks, program, answers)
         examples = {deck: Answer(job_of(text_of(deck))) for deck in all_decks()}
-        causes = answers_of(program, "why --all", examples)
-        asked += check_explained(checks, program, examples, causes)
+        asked += check_explained(checks, program, examples)
         checks.expect_that("many offences are explained", asked > len(answers) // 2, asked)
     kinds = {answer.found[0][1] if answer.found else "yes" for answer in answers.values()}
     checks.expect_that("each verdict comes", len(kinds) == 17, sorted(kinds))

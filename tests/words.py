@@ -367,7 +367,8 @@ def check_flags(checks, program):
         checks.expect(word, Ran(0, line), run(program, "explain", "--", word))
     line = "-CL--0: C chain command; L suppress length indication\n"
     checks.expect("-CL--0 alone", Ran(0, line), run(program, "explain", "-CL--0"))
-    for word in ("-CL--8", "CD---0", "-CL-0", "XCL--0", "-CL--00", "DCLSP"):
+    unlike = [f"{'-' * at}X{'-' * (4 - at)}0" for at in range(len(FLAG_NAMES))]
+    for word in ("-CL--8", "-CL---", "CD---0", "-CL-0", "-cl--0", "-CL--00", "DCLSP", *unlike):
         ran = run(program, "explain", "--", word)
         checks.expect(f"{word}, which isn't flags", (4, ""), (ran.status, ran.output))
 

@@ -3,12 +3,10 @@ pub use Rattle.ccw_core.proofs.Prefixes.{prefix_of_more}
 pub use Rattle.ccw_core.specs.Written.{AppendsPrefix}
 pub use Rattle.ccw_core.specs.declared.areas.Area.{Area}
 pub use Rattle.ccw_core.specs.declared.ccw.TheConstants.{STORAGE_LIMIT}
-pub use Rattle.chan_deck.specs.Explanation.{also_lines, given_text, ranges_behind, ranges_text, seek_text}
 pub use Rattle.chan_deck.specs.Image.{extent_of, HasLimit, header_of, Image, is_zero, IsDeck, items, limit_line, spelling, Spells}
 pub use Rattle.chan_deck.specs.Item.{address_digits, area_digits, byte_digits, cylinder_digits, device, end, extent, fetch, HasForm, header, IsAddress, IsArea, IsByte, Item, limit, line, LineReads, LineSays, LineSaysIfAny, mask, put, said_by, size_digits, start, storage, store, text}
 pub use Rattle.chan_deck.specs.Listing.{command_name, marked_row, seen_row}
 pub use Rattle.chan_deck.specs.Needs.{in_six_digits, keep_line}
-pub use Rattle.chan_deck.specs.Notes.{areas_adjoin, HasNotesAdded, joined_area, joined_from, number_of_hangs, with_neighbours_joined}
 pub use Rattle.chan_deck.specs.PartsImage.{image_of_parts, storage_with, zeros}
 pub use Rattle.chan_deck.specs.Reading.{after_item, after_line, and_then, begun_state, Filling, HasRead, image_of, is_empty, is_whole, IsDeckError, Listing, Masked, Named, on_extent, on_put, OnDevice, Opening, pad, ReadingGoesOn, run, stands, Started, State, step, Whole, with_lists}
 pub use Rattle.chan_deck.specs.Refused.{FoundLine, is_limit, is_second, is_size, IsDeckCause, IsRefusedAt, last_of, lines, part, rank, whole_line}

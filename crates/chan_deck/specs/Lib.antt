@@ -11,7 +11,5 @@ pub mod VerdictLine
 pub mod WrittenInPieces
 pub mod Listing
 pub mod Explanation
-pub mod Hint
-pub mod Notes
 pub mod Graph
 pub mod Needs

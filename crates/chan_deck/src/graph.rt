@@ -5,7 +5,8 @@ ghost use Rattle.std.specs.Prelude.{◌≡◌, ◌++◌, codes, option_map, stri
 ghost use Rattle.chan_deck.specs.Graph.{IsPictureOf, escaped, escaped_byte, titled};
 ghost use Rattle.chan_deck.specs.VerdictLine.{verdict_words};
 
-use crate::explanation::{push_cause, push_setting};
+use crate::evidence::push_evidence;
+use crate::explanation::push_setting;
 use crate::layout::{
     Arrow, Layout, MOST_ROWS, Row, Scene, arrow_to, first_offence, first_row, is_left_out_of,
     layout_of, row_at,
@@ -358,7 +359,7 @@ fn push_reason(
     let reason = format!(in alloc; "{word}:")?;
     push_line(out, None, reason.as_str())?;
     let mut text = String::new(alloc);
-    push_cause(alloc, &mut text, cause)?;
+    push_evidence(alloc, &mut text, cause)?;
     let (first, second) = match (text.split_once(", over "), text.split_once(": ")) {
         (Some((data, over)), _) => (
             format!(in alloc; "  {data},")?,

@@ -1,10 +1,4 @@
-//! The hint for the line at which a text is refused. The place of the line and the forms that may
-//! come there are proved; tests hold the wording.
-
-ghost use Rattle.std.specs.Prelude.{◌≡◌, ◌≢◌, ◌++◌, ◌∷◌, [], List, Some, IfOk};
-ghost use Rattle.chan_deck.specs.Hint.{AreBefore, IsBehind, IsSpotBehindLines, storage_said};
-ghost use Rattle.chan_deck.specs.Item.{Item as Said, said_by};
-ghost use Rattle.chan_deck.specs.Refused.{is_second};
+//! The hint for the line at which a text is refused, which tests hold.
 
 use crate::cause::Cause;
 use crate::item::Item;
@@ -40,9 +34,7 @@ struct Spot<'a> {
 }
 
 /// Whether an item is the header of version 2.
-fn is_second_header(item: Item) -> bool
-    ensures { (i : Said) → said_by item ≡ Some i → result ≡ is_second (i ∷ []) }
-{
+fn is_second_header(item: Item) -> bool {
     match item {
         Item::Header(VersionNumber::Two) => true,
         _ => false,
@@ -50,9 +42,7 @@ fn is_second_header(item: Item) -> bool
 }
 
 /// How many bytes storage has, if the item says so.
-fn size_of(item: Item) -> Option<u32>
-    ensures { (i : Said) → said_by item ≡ Some i → result ≡ storage_said (i ∷ []) }
-{
+fn size_of(item: Item) -> Option<u32> {
     match item {
         Item::Storage(size) => Some(size),
         _ => None,
@@ -60,10 +50,7 @@ fn size_of(item: Item) -> Option<u32>
 }
 
 /// The content of some lines and one more.
-fn one_more(before: Before, item: Item) -> Before
-    ensures { (is : List Said) (i : Said) → AreBefore is before → said_by item ≡ Some i
-        → AreBefore (is ++ i ∷ []) result }
-{
+fn one_more(before: Before, item: Item) -> Before {
     Before {
         last: Some(item),
         is_second: if before.last.is_some() {
@@ -80,9 +67,7 @@ fn one_more(before: Before, item: Item) -> Before
 
 /// The content of the first `count` whole lines, or of all if there are fewer, and the rest of the
 /// text.
-fn skip_lines(text: &[u8], count: u64) -> (Before, &[u8])
-    ensures { IsBehind text.now count result.0 result.1.now }
-{
+fn skip_lines(text: &[u8], count: u64) -> (Before, &[u8]) {
     let mut before = Before {
         last: None,
         is_second: false,
@@ -100,9 +85,7 @@ fn skip_lines(text: &[u8], count: u64) -> (Before, &[u8])
 }
 
 /// The place after `count` lines.
-fn spot_behind(text: &[u8], count: u64) -> Spot<'_>
-    ensures { IsSpotBehindLines text.now count result }
-{
+fn spot_behind(text: &[u8], count: u64) -> Spot<'_> {
     let (before, rest) = skip_lines(text, count);
     match next_line(rest) {
         Some((line, _)) => Spot {
@@ -389,9 +372,12 @@ fn fitting_one(pattern: &[u8], line: &[u8]) -> usize {
 /// another form, it says that this form comes earlier or later. It names a byte-order mark, a
 /// no-break blank and a carriage return. If the first bytes aren't text, it names the command that
 /// makes a deck.
-pub fn hint_text(alloc: Global, text: &[u8], line: u64, cause: Cause) -> Result<Vec<u8>, AllocError>
-    ensures { IfOk result (λ text. text.items ≢ []) }
-{
+pub fn hint_text(
+    alloc: Global,
+    text: &[u8],
+    line: u64,
+    cause: Cause,
+) -> Result<Vec<u8>, AllocError> {
     let spot = spot_behind(text, line.saturating_sub(1));
     let mut out = String::from_str(alloc, "found ")?;
     push_found(&mut out, &spot)?;

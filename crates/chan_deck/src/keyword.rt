@@ -1,9 +1,5 @@
 //! The forms of a deck's lines, by their keywords.
 
-ghost use Rattle.std.specs.Prelude.{◌≡◌};
-ghost use Rattle.chan_deck.specs.Hint as hint;
-ghost use Rattle.chan_deck.specs.Hint.{item_in};
-
 use crate::item::Item;
 
 /// A form of lines.
@@ -104,9 +100,7 @@ pub(crate) fn begun_as(forms: &[Form], line: &[u8]) -> Option<Form> {
 
 /// The forms that may stand behind a line that says this, in a deck of version 2 or not, or at the
 /// start.
-pub(crate) fn forms_behind(last: Option<Item>, is_second: bool) -> &'static [Form]
-    ensures { result.now ≡ hint.forms_behind is_second (item_in last) }
-{
+pub(crate) fn forms_behind(last: Option<Item>, is_second: bool) -> &'static [Form] {
     match last {
         None | Some(Item::Formless | Item::Missing) => &[Form::Header],
         Some(Item::Header(_)) => &[Form::Device],

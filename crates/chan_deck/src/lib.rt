@@ -15,6 +15,7 @@ mod cause;
 mod deck;
 mod digits;
 mod error;
+mod evidence;
 mod explanation;
 mod graph;
 mod heading;

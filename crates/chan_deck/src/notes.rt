@@ -1,11 +1,4 @@
-//! The notes on a job as text. It is proved which areas share a note, and when there is no text;
-//! tests hold the wording.
-
-ghost use Rattle.std.specs.Prelude.{◌≡◌, ◌≤◌, ◌↔◌, ◌^◌, [], length, string_bytes, IfOk, OnOk};
-ghost use Rattle.chan_deck.specs.Notes as adjoining;
-ghost use Rattle.chan_deck.specs.Notes.{HasNotesAdded, HasNoNote, exchange_note, number_of_hangs};
-ghost use Rattle.chan_deck.specs.Notes.{storage_note};
-ghost use Rattle.ccw_core.specs.declared.ccw.TheConstants.{STORAGE_LIMIT};
+//! The notes on a job as text, which tests hold.
 
 use crate::listing::way_word;
 use crate::texts::{Address, Digits, Size};
@@ -50,29 +43,33 @@ const STORAGE_ENDS: &str =
 /// How many notes of one kind are written; a last line counts the others.
 const MOST: usize = 100;
 
-/// Whether an area begins where another ends, and both together are one area.
-fn areas_adjoin(one: Area, other: Area) -> bool
-    ensures { result ≡ adjoining.areas_adjoin one other }
-{
-    u64::from(one.start) + u64::from(one.len) == u64::from(other.start)
-        && u64::from(one.len) + u64::from(other.len) <= u64::from(u32::MAX)
+/// Two areas as one, if the second begins where the first ends and an area can be so long.
+fn joined(one: Area, other: Area) -> Option<Area> {
+    let end = u64::from(one.start) + u64::from(one.len);
+    if end != u64::from(other.start) {
+        return None;
+    }
+    let len = one.len.checked_add(other.len)?;
+    Some(Area {
+        start: one.start,
+        len,
+    })
 }
 
 /// The areas, with neighbours that adjoin joined into one.
-fn join_neighbours(alloc: Global, areas: &[Area]) -> Result<Vec<Area>, AllocError>
-    ensures { IfOk result (λ v. v.items ≡ adjoining.with_neighbours_joined areas.now) }
-{
+fn join_neighbours(alloc: Global, areas: &[Area]) -> Result<Vec<Area>, AllocError> {
     let mut runs = Vec::new(alloc);
     let Some((first, rest)) = areas.split_first() else {
         return Ok(runs);
     };
     let mut run = *first;
     for area in rest {
-        if areas_adjoin(run, *area) {
-            run.len += area.len;
-        } else {
-            runs.push(run)?;
-            run = *area;
+        match joined(run, *area) {
+            Some(longer) => run = longer,
+            None => {
+                runs.push(run)?;
+                run = *area;
+            }
         }
     }
     runs.push(run)?;
@@ -80,10 +77,7 @@ fn join_neighbours(alloc: Global, areas: &[Area]) -> Result<Vec<Area>, AllocErro
 }
 
 /// Adds the line that counts the notes of a kind beyond the first `MOST`, if there are any.
-fn push_more(out: &mut String, count: usize) -> Result<(), AllocError>
-    ensures { OnOk result ((count ≤ 100 → string_bytes out.new ≡ string_bytes out.old)
-        × (length (string_bytes out.old) ≤ length (string_bytes out.new))) }
-{
+fn push_more(out: &mut String, count: usize) -> Result<(), AllocError> {
     if count <= MOST {
         return Ok(());
     }
@@ -98,10 +92,7 @@ fn push_areas(
     word: &str,
     what: &str,
     areas: &[Area],
-) -> Result<(), AllocError>
-    ensures { OnOk result (HasNotesAdded (length areas.now) (string_bytes out.old)
-        (string_bytes out.new)) }
-{
+) -> Result<(), AllocError> {
     let runs = join_neighbours(alloc, areas)?;
     for run in &runs[..runs.len().min(MOST)] {
         let start = Address(run.start);
@@ -113,10 +104,7 @@ fn push_areas(
 
 /// Adds the note on the place from which on the program never ends by itself, if there is one. It
 /// says how the CCW is entered, since the program may end where the same CCW is entered otherwise.
-fn push_hang(out: &mut String, hang: Option<Place>) -> Result<(), AllocError>
-    ensures { OnOk result (HasNotesAdded (number_of_hangs hang) (string_bytes out.old)
-        (string_bytes out.new)) }
-{
+fn push_hang(out: &mut String, hang: Option<Place>) -> Result<(), AllocError> {
     if let Some(place) = hang {
         let address = Address(place.address);
         let way = way_word(place.entered);
@@ -126,10 +114,7 @@ fn push_hang(out: &mut String, hang: Option<Place>) -> Result<(), AllocError>
 }
 
 /// Adds the notes of a kind on the CCWs at some addresses.
-fn push_ccws(out: &mut String, what: &str, addresses: &[u32]) -> Result<(), AllocError>
-    ensures { OnOk result
-        (HasNotesAdded (length addresses.now) (string_bytes out.old) (string_bytes out.new)) }
-{
+fn push_ccws(out: &mut String, what: &str, addresses: &[u32]) -> Result<(), AllocError> {
     for address in &addresses[..addresses.len().min(MOST)] {
         let address = Address(*address);
         write!(out, "note: {address}{what}\n")?;
@@ -138,10 +123,7 @@ fn push_ccws(out: &mut String, what: &str, addresses: &[u32]) -> Result<(), Allo
 }
 
 /// Adds the notes on the CCWs at some addresses of storage whose byte 5 isn't zero, with that byte.
-fn push_spare(out: &mut String, storage: Storage<'_>, addresses: &[u32]) -> Result<(), AllocError>
-    ensures { OnOk result
-        (HasNotesAdded (length addresses.now) (string_bytes out.old) (string_bytes out.new)) }
-{
+fn push_spare(out: &mut String, storage: Storage<'_>, addresses: &[u32]) -> Result<(), AllocError> {
     for number in &addresses[..addresses.len().min(MOST)] {
         let address = Address(*number);
         write!(out, "note: {address} has ")?;
@@ -152,9 +134,7 @@ fn push_spare(out: &mut String, storage: Storage<'_>, addresses: &[u32]) -> Resu
 }
 
 /// Adds byte 5 of a CCW, if there is one.
-fn push_byte(out: &mut String, ccw: Option<Ccw>) -> Result<(), AllocError>
-    ensures { OnOk result (length (string_bytes out.old) ≤ length (string_bytes out.new)) }
-{
+fn push_byte(out: &mut String, ccw: Option<Ccw>) -> Result<(), AllocError> {
     match ccw {
         Some(ccw) => {
             let byte = Digits(ccw.spare());
@@ -181,9 +161,7 @@ pub fn notes_text(
     storage: Storage<'_>,
     notes: &Notes,
     hang: Option<Place>,
-) -> Result<String, AllocError>
-    ensures { IfOk result (λ text. (string_bytes text ≡ []) ↔ HasNoNote notes.now hang) }
-{
+) -> Result<String, AllocError> {
     let mut text = String::new(alloc);
     push_areas(
         alloc,
@@ -217,19 +195,14 @@ pub fn notes_text(
 
 /// The note on an image of storage whose ends may be wrong: how long storage is, and which options
 /// say so. An error means that an allocation failed.
-pub fn storage_note(alloc: Global, size: u32) -> Result<String, AllocError>
-    requires { size ≤ STORAGE_LIMIT }
-    ensures { IfOk result (λ text. string_bytes text ≡ storage_note size) }
-{
+pub fn storage_note(alloc: Global, size: u32) -> Result<String, AllocError> {
     let size = Size(size);
     format!(in alloc; "note: storage has {size}{STORAGE_ENDS}")
 }
 
 /// The note that areas seem exchanged, for a verdict with this reason: what isn't lent one way is
 /// lent the other way. For other reasons the text is empty.
-pub fn exchange_note<'a>(reason: Reason) -> &'a str
-    ensures { result.now ≡ exchange_note reason }
-{
+pub fn exchange_note<'a>(reason: Reason) -> &'a str {
     match reason {
         Reason::FetchNotLent => LENT_FOR_STORING,
         Reason::StoreNotLent => LENT_FOR_FETCHING,

@@ -83,11 +83,6 @@ impl fmt::Display for Size {
 pub(crate) struct Range(pub(crate) Area);
 
 impl fmt::Display for Range {
-    ghost use Rattle.std.specs.Prelude.{Some};
-    ghost use Rattle.chan_deck.specs.Explanation.{range_text};
-
-    ghost output = { λ r. Some (range_text r.0) };
-
     fn fmt<W: fmt::Write>(&self, f: &mut fmt::Formatter<W>) -> fmt::Result {
         let last = self.0.start.saturating_add(self.0.len.saturating_sub(1));
         let first = Address(self.0.start);

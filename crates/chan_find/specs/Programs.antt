@@ -1,14 +1,14 @@
--- Where programs are found in storage. Which places these are tests say, not a definition.
+-- The starts of programs in storage. Tests say which starts are listed, no definition does.
 use Rattle.std.specs.Prelude.{◌≡◌, ◌⊎◌, ◌++◌, ◌∷◌, ℕ, List, []}
+use Rattle.std.specs.List.{All}
 use Rattle.std.specs.List.Sorted.{IsStrictlyIncreasing}
 use Rattle.ccw_core.specs.Storage.{Stands}
-use Rattle.chan_walk.specs.Argument.{Has}
 
--- a CCW stands in storage at each of these, and they are in order, each once
-pub record AreStarts (s : List ℕ) (starts : List ℕ) : Type 0 where
+-- starts in storage, each once, in order; a CCW stands at each
+pub record AreStarts (s starts : List ℕ) : Type 0 where
   pub ordered : IsStrictlyIncreasing starts
-  pub stand : (a : ℕ) → Has starts a → Stands s a
+  pub stand : All (Stands s) starts
 
--- an address is taken, if a CCW stands there, or isn't
+-- a start was offered: the list is as it was, or it has the start too, at which a CCW stands
 abbrev pub IsOffered : List ℕ → ℕ → List ℕ → List ℕ → Type 0
 IsOffered s a old new = (new ≡ old) ⊎ (Stands s a × (new ≡ old ++ a ∷ []))

@@ -1,6 +1,8 @@
 //! A flat table of marks: for each doubleword of storage the ways in which its CCW is entered.
 
-ghost use Rattle.std.specs.Prelude.{◌<◌, length, IfSome};
+ghost use Rattle.std.specs.Prelude.{◌≡◌, ◌<◌, length, IfSome};
+ghost use Rattle.std.specs.Bool.{MatchBool};
+ghost use Rattle.chan_find.specs.Trails.{room_left};
 
 use chan_walk::Place;
 use std::alloc::{AllocError, Global};
@@ -44,7 +46,11 @@ impl MarkTable {
     }
 
     /// Marks a place, unless it is marked already or holds no CCW, and says whether it did.
-    pub(crate) fn put(&mut self, place: Place) -> bool {
+    pub(crate) fn put(&mut self, place: Place) -> bool
+        ensures { MatchBool result
+            (room_left self.new.bytes.items < room_left self.old.bytes.items)
+            (self.new.bytes.items ≡ self.old.bytes.items) }
+    {
         let Some(at) = self.index_of(place) else {
             return false;
         };

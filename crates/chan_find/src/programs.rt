@@ -127,13 +127,14 @@ fn starts_of(alloc: Global, job: &Job) -> Result<Vec<u32>, AllocError>
     highest_apart(alloc, job, roots)
 }
 
-/// The starts of all programs in storage, each once, in order. Its CCWs are judged under the
-/// device's open job.
+/// The starts of programs in storage, each once, in order. The call judges CCWs under the device's
+/// open job.
 ///
-/// A program starts at a likely start to which no likely start from outside leads; of starts that
-/// lead to each other, the lowest counts. The start of a job with a yes is in the list, or a start
-/// of the list leads to it, unless its program has a single CCW or a byte 5 that isn't zero. It is
-/// proved that a CCW stands at each start; the rest is shown by tests.
+/// It is proved that each start is a multiple of 8, that its CCW is inside storage, and that it is
+/// higher than the start before it. Which starts these are is only tested: a program starts at a
+/// likely start to which no likely start from outside leads; of starts that lead to each other, the
+/// lowest counts. So the start of a job with a yes is in the list, or a start of the list leads to
+/// it, unless its program has a single CCW or a byte 5 that isn't zero.
 ///
 /// `AllocError` comes only if a growth was refused. The call takes memory for a byte for each
 /// doubleword of storage, for the list, and for the places from which it has yet to step on. With n

@@ -1,5 +1,8 @@
 //! The places that starts have trails to.
 
+ghost use Rattle.std.specs.Prelude.{◌≤◌, OnOk};
+ghost use Rattle.chan_find.specs.Trails.{work_left};
+
 use crate::mark_table::MarkTable;
 use chan_walk::{Entry, Job, Look, Place, look_at};
 use std::alloc::{AllocError, Global};
@@ -45,7 +48,9 @@ impl Covered {
     }
 
     /// Adds a place, unless it is there already or holds no CCW.
-    fn add(&mut self, place: Option<Place>) -> Result<(), AllocError> {
+    fn add(&mut self, place: Option<Place>) -> Result<(), AllocError>
+        ensures { OnOk result (work_left self.new ≤ work_left self.old) }
+    {
         if let Some(place) = place {
             if self.marks.put(place) {
                 self.pending.push(place)?;
@@ -55,7 +60,9 @@ impl Covered {
     }
 
     /// Adds the places to which a place steps.
-    fn step_on(&mut self, job: &Job, place: Place) -> Result<(), AllocError> {
+    fn step_on(&mut self, job: &Job, place: Place) -> Result<(), AllocError>
+        ensures { OnOk result (work_left self.new ≤ work_left self.old) }
+    {
         let look = look_at(job, place);
         if is_plain(&look) {
             let next = look.next();
@@ -66,15 +73,11 @@ impl Covered {
         Ok(())
     }
 
-    /// Adds all places that a start has trails to. As each place is stepped on from once, and a CCW
-    /// has eight, there are no more steps than bytes of storage.
+    /// Adds all places that a start has trails to. Each place is added once, so the loop ends.
     pub(crate) fn cover(&mut self, job: &Job, start: u32) -> Result<(), AllocError> {
         self.add(Some(start_at(start)))?;
-        for _ in 0..job.storage.len() {
-            match self.pending.pop() {
-                Some(place) => self.step_on(job, place)?,
-                None => break,
-            }
+        while let Some(place) = self.pending.pop() {
+            self.step_on(job, place)?;
         }
         Ok(())
     }

@@ -5,4 +5,3 @@ pub mod OptionLemmas
 pub mod Endings
 mod RoomLemmas
 mod FoundLemmas
-mod NameLemmas

@@ -1,6 +1,7 @@
--- How an input that has a name is named, in a verdict's line and in a line on standard error.
+-- How an input that has a name is named: in a verdict's line, over a listing and in a line on
+-- standard error.
 use Rattle.std.specs.Prelude.{◌++◌, ℕ, Bool, true, false, List, [], Option, Some, None}
-use Rattle.std.specs.Prelude.{◌∷◌, ◌==◌, codes, option_map}
+use Rattle.std.specs.Prelude.{codes, option_map}
 use Rattle.std.specs.Borrow.{Bor}
 use Rattle.chan_run.specs.declared.name.Naming.{Naming}
 
@@ -30,14 +31,3 @@ heading_with name wanted = []
 -- the line over the listing or the needs of one of several inputs
 abbrev pub heading_of : Naming → List ℕ
 heading_of n = heading_with (name_of n) n.is_among
-
--- what each line beside the answer over one of several inputs begins with
-abbrev pub front_of : Naming → List ℕ
-front_of n = name_before (name_of n) n.is_among
-
--- a text with a front before each line: here, if a line begins here, and after each line feed
--- behind which the text goes on
-unfoldable pub fronted : List ℕ → Bool → List ℕ → List ℕ
-fronted front begins [] = []
-fronted front true (b ∷ bs) = front ++ (b ∷ fronted front (b == 10) bs)
-fronted front false (b ∷ bs) = b ∷ fronted front (b == 10) bs

@@ -1,7 +1,6 @@
 -- What an action asks for of a job and its verdict.
 use Rattle.std.specs.Prelude.{◌≡◌, ◌++◌, ◌∷◌, ◌==◌, ℕ, Bool, true, false, List, [], Option, None}
 use Rattle.std.specs.Prelude.{Some, if◌then◌else◌}
-use Rattle.std.specs.List.{AllZip}
 use Rattle.std.specs.Io.KnownBytes.{Appends}
 use Rattle.chan_deck.specs.Image.{Image, Spells, limit_of}
 use Rattle.chan_deck.specs.Explanation.{IsExplanationText, IsOffenceText}
@@ -10,14 +9,13 @@ use Rattle.chan_deck.specs.Listing.{listing}
 use Rattle.chan_deck.specs.Needs.{in_six_digits, needs_text}
 use Rattle.chan_deck.specs.PartsImage.{storage_with, version_with}
 use Rattle.chan_deck.specs.VerdictLine.{verdict_line}
-use Rattle.chan_walk.specs.declared.evidence.Evidence.{Evidence}
 use Rattle.chan_walk.specs.declared.job.Job.{Job}
 use Rattle.chan_walk.specs.declared.offence.Offence.{Offence}
 use Rattle.chan_walk.specs.declared.place.Place.{Place}
 use Rattle.chan_walk.specs.declared.verdict.Verdict.{Verdict}
 use Rattle.chan_walk.specs.declared.verdict.Verdict.TheVariants.{Yes, No}
 use Rattle.chan_why.specs.declared.witness.Witness.{Witness}
-use Rattle.chan_why.specs.Witness.{IsCauseOf, IsWitnessOf, offence_at}
+use Rattle.chan_why.specs.Witness.{IsWitnessOf, offence_at}
 use Rattle.chan_walk.specs.Limit.{usual_limit}
 use Rattle.chan_walk.specs.Places.{AreReachable}
 use Rattle.chan_walk.specs.Verdict.{IsVerdict}
@@ -52,11 +50,6 @@ pub record HoldsOfDeckJob (t : List ℕ) (Holds : Job → Type 0) : Type 0 where
   pub of_deck : IsDeckJob deck job
   pub holds : Holds job
 
--- the causes that are told: those of all offences, or none
-abbrev pub AreExplainedCauses : Explained → Job → List Offence → List Evidence → Type 0
-AreExplainedCauses tells.All j os es = AllZip (IsCauseOf j) os es
-AreExplainedCauses told j os es = es ≡ []
-
 -- the offence that is asked about, if one is at the address
 abbrev pub requested_offence : List Offence → Explained → Option Offence
 requested_offence os (tells.At a) = offence_at a os
@@ -66,8 +59,7 @@ requested_offence os told = None
 -- about
 abbrev pub IsExplanation : Explained → Job → List Offence → Option Offence → List ℕ → Type 0
 IsExplanation told j os None text =
-    (es : List Evidence) × (w : Witness) × IsWitnessOf j (first_verdict os) w
-    × AreExplainedCauses told j os es × IsExplanationText j os es w text
+    (w : Witness) × IsWitnessOf j (first_verdict os) w × IsExplanationText j os w text
 IsExplanation told j os (Some o) text =
     (w : Witness) × IsWitnessOf j (No o.place.address o.reason) w
     × IsOffenceText j (first_verdict os) w text

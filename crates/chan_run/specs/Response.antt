@@ -1,6 +1,6 @@
 -- What is answered to an input: the outcome, and the bytes for each of two writers; and what the
 -- writers got of it.
-use Rattle.std.specs.Prelude.{◌≡◌, ◌≢◌, ◌⊎◌, ◌++◌, ◌||◌, ℕ, Bool, false, true, List, [], Option}
+use Rattle.std.specs.Prelude.{◌≡◌, ◌⊎◌, ◌++◌, ◌||◌, ℕ, Bool, false, true, List, [], Option}
 use Rattle.std.specs.Prelude.{None, Some, is_some, option_map}
 use Rattle.std.specs.Global.{Vec}
 use Rattle.std.specs.Io.KnownBytes.{Appends}
@@ -14,9 +14,9 @@ use Rattle.chan_walk.specs.Places.{HasMoreThan}
 use Rattle.chan_walk.specs.declared.job.Job.{Job}
 use Rattle.chan_walk.specs.declared.verdict.Verdict.{Verdict}
 use Rattle.chan_walk.specs.declared.verdict.Verdict.TheVariants.{Yes, No}
-use Rattle.chan_run.specs.Advice.{IsVerdictAdvice, is_advised, always_hints}
+use Rattle.chan_run.specs.Advice.{is_advised, always_hints}
 use Rattle.chan_run.specs.Input.{IsInput, IsReadFault}
-use Rattle.chan_run.specs.Name.{front_of, fronted, name_of}
+use Rattle.chan_run.specs.Name.{name_of}
 use Rattle.chan_run.specs.Outcome.{IsCarriedOut, line_over}
 use Rattle.chan_run.specs.Output.{IsActionOutput, HoldsOfDeckJob, ActionJudges}
 use Rattle.chan_run.specs.Texts.{WriterGot}
@@ -33,13 +33,10 @@ use Rattle.chan_run.specs.declared.response.Response.{Response}
 abbrev pub advice_in : Option (Vec ℕ) → Option (List ℕ)
 advice_in = option_map (λ text. text.items)
 
--- the advice beside an answer: if some is wanted, such advice with the name before each line,
--- unless memory ran out for it; and else nothing
-abbrev pub IsWantedAdvice : Naming → Bool → (List ℕ → Type 0) → Option (List ℕ) → Type 0
-IsWantedAdvice n false IsAdvice advice = advice ≡ Some []
-IsWantedAdvice n true IsAdvice None = Unit {0}
-IsWantedAdvice n true IsAdvice (Some text) =
-    (advice : List ℕ) × IsAdvice advice × (text ≡ fronted (front_of n) true advice)
+-- there is no advice unless some is wanted; what it says is held by tests
+abbrev pub IsWantedAdvice : Bool → Option (List ℕ) → Type 0
+IsWantedAdvice false advice = advice ≡ Some []
+IsWantedAdvice true advice = Unit {0}
 
 -- only this outcome and this note, without an output or advice
 pub record IsBareResponse (end : Outcome) (remark : List ℕ) (r : Response) : Type 0 where
@@ -66,8 +63,7 @@ pub record IsVerdictResponse (n : Naming) (a : Action) (j : Job) (r : Response) 
   pub is : IsAnswer j verdict
   pub outcome : r.outcome ≡ outcome_of verdict
   pub output : IsActionOutput n a j verdict r.output.items
-  pub advice :
-      IsWantedAdvice n (is_advised a) (IsVerdictAdvice a j verdict) (advice_in r.advice)
+  pub advice : IsWantedAdvice (is_advised a) (advice_in r.advice)
   pub note : r.note.now ≡ []
 
 -- too many places are reachable
@@ -75,7 +71,7 @@ pub record IsLimitResponse (n : Naming) (a : Action) (j : Job) (r : Response) : 
   pub many : HasMoreThan j j.limit
   pub outcome : r.outcome ≡ Failed failures.TooManyPlaces
   pub output : r.output.items ≡ []
-  pub advice : IsWantedAdvice n (is_why a) (λ advice. advice ≢ []) (advice_in r.advice)
+  pub advice : IsWantedAdvice (is_why a) (advice_in r.advice)
   pub note : r.note.now ≡ []
 
 -- the text isn't a deck; the hint comes if it is explained or drawn, or has a name
@@ -85,8 +81,7 @@ pub record IsRefusalResponse (n : Naming) (a : Action) (t : List ℕ) (r : Respo
   pub refused : IsRefused t line cause
   pub outcome : r.outcome ≡ Refused line cause
   pub output : r.output.items ≡ []
-  pub advice :
-      IsWantedAdvice n (is_some n.name || always_hints a) (λ hint. hint ≢ []) (advice_in r.advice)
+  pub advice : IsWantedAdvice (is_some n.name || always_hints a) (advice_in r.advice)
   pub note : r.note.now ≡ []
 
 -- the answer to what an action asks of a job: that of the job that it judges

@@ -1,16 +1,9 @@
 //! What is said beside the answer on a text, as lines. Tests hold the texts.
 
-ghost use Rattle.std.specs.Prelude.{◌≡◌, ◌≢◌, ◌++◌, ◌||◌, [], true, IfOk, OnOk, is_some};
-ghost use Rattle.std.specs.Prelude.{if◌then◌else◌, List, ℕ};
+ghost use Rattle.std.specs.Prelude.{◌≡◌, ◌||◌, is_some};
 ghost use Rattle.chan_args.specs.Actions.{is_why};
 ghost use Rattle.chan_walk.specs.JobSurvey.{IsSurvey};
-ghost use Rattle.chan_walk.specs.Offence.{first_verdict};
-ghost use Rattle.chan_walk.specs.declared.verdict.Verdict.TheVariants.{No};
-ghost use Rattle.chan_run.specs.Advice.{AreJobNotes, IsAbsentNote, IsExchangeNote};
-ghost use Rattle.chan_run.specs.Advice.{IsExchangeAdvice, IsJobAdvice, IsVerdictAdvice};
-ghost use Rattle.chan_run.specs.Advice.{IsWhyAdvice, is_advised, is_chained_over, always_hints};
-ghost use Rattle.chan_run.specs.Advice.{no_job_note};
-ghost use Rattle.chan_run.specs.Name.{front_of, fronted};
+ghost use Rattle.chan_run.specs.Advice.{always_hints, is_advised};
 ghost use Rattle.chan_run.specs.Response.{IsWantedAdvice, advice_in};
 
 use crate::explained_offence::explained_offence;
@@ -35,8 +28,8 @@ pub(crate) fn refusal_advice(
     line: u64,
     cause: Cause,
 ) -> Option<Vec<u8>>
-    ensures { IsWantedAdvice naming.entry (is_some naming.entry.name || always_hints action)
-        (λ hint. hint ≢ []) (advice_in result) }
+    ensures { IsWantedAdvice (is_some naming.entry.name || always_hints action)
+        (advice_in result) }
 {
     if !(naming.name.is_some() || always_hints(action)) {
         return Some(Vec::new(alloc));
@@ -59,8 +52,7 @@ pub(crate) fn limit_advice(
     action: Action,
     limit: Limit,
 ) -> Option<Vec<u8>>
-    ensures { IsWantedAdvice naming.entry (is_why action)
-        (λ advice. advice ≢ []) (advice_in result) }
+    ensures { IsWantedAdvice (is_why action) (advice_in result) }
 {
     if !action.is_why() {
         return Some(Vec::new(alloc));
@@ -78,8 +70,7 @@ pub(crate) fn action_advice(
     survey: &Survey,
 ) -> Option<Vec<u8>>
     requires { IsSurvey job.now survey.now }
-    ensures { IsWantedAdvice naming.entry (is_advised action)
-        (IsVerdictAdvice action job.now (first_verdict survey.now.offences)) (advice_in result) }
+    ensures { IsWantedAdvice (is_advised action) (advice_in result) }
 {
     let text = match action {
         Action::Why(explained) => {
@@ -93,9 +84,7 @@ pub(crate) fn action_advice(
 
 /// The advice on what a program needs that was surveyed under its open job: a note if the verdict
 /// is no.
-fn needs_advice(alloc: Global, verdict: Verdict) -> Result<Vec<u8>, AllocError>
-    ensures { IfOk result (λ text. text.items ≡ no_job_note verdict) }
-{
+fn needs_advice(alloc: Global, verdict: Verdict) -> Result<Vec<u8>, AllocError> {
     let mut text = Vec::new(alloc);
     if let Verdict::No { .. } = verdict {
         text.extend_from_slice(NO_JOB.as_bytes())?;
@@ -104,9 +93,7 @@ fn needs_advice(alloc: Global, verdict: Verdict) -> Result<Vec<u8>, AllocError>
 }
 
 /// A text with the name of one of several inputs before each line.
-fn fronted(alloc: Global, naming: Naming<'_>, text: &[u8]) -> Result<Vec<u8>, AllocError>
-    ensures { IfOk result (λ said. said.items ≡ fronted (front_of naming.entry) true text.now) }
-{
+fn fronted(alloc: Global, naming: Naming<'_>, text: &[u8]) -> Result<Vec<u8>, AllocError> {
     let mut said = Vec::new(alloc);
     let mut begins = true;
     for byte in text {
@@ -118,10 +105,7 @@ fn fronted(alloc: Global, naming: Naming<'_>, text: &[u8]) -> Result<Vec<u8>, Al
 }
 
 /// Adds what a line beside the answer begins with, if one begins here.
-fn push_front(text: &mut Vec<u8>, naming: Naming<'_>, begins: bool) -> Result<(), AllocError>
-    ensures { OnOk result (text.new.items
-        ≡ text.old.items ++ (if begins then front_of naming.entry else [])) }
-{
+fn push_front(text: &mut Vec<u8>, naming: Naming<'_>, begins: bool) -> Result<(), AllocError> {
     if begins {
         let (name, mark) = named(naming.name, naming.is_among);
         text.extend_from_slice(name.as_bytes())?;
@@ -133,7 +117,6 @@ fn push_front(text: &mut Vec<u8>, naming: Naming<'_>, begins: bool) -> Result<()
 /// The notes on a job that was surveyed.
 fn notes_on(alloc: Global, job: &Job, survey: &Survey) -> Result<Vec<u8>, AllocError>
     requires { IsSurvey job.now survey.now }
-    ensures { IfOk result (λ text. AreJobNotes job.now text.items) }
 {
     let notes = notes_from(alloc, job, survey)?;
     let hang = hang_from(alloc, survey)?;
@@ -150,8 +133,6 @@ fn why_advice(
     survey: &Survey,
 ) -> Result<Vec<u8>, AllocError>
     requires { IsSurvey job.now survey.now }
-    ensures { IfOk result (λ text. IsWhyAdvice explained job.now
-        (first_verdict survey.now.offences) text.items) }
 {
     let mut text = absent_note(alloc, explained, survey)?;
     let said = job_advice(alloc, named, explained, job, survey)?;
@@ -169,8 +150,6 @@ pub(crate) fn job_advice(
     survey: &Survey,
 ) -> Result<Vec<u8>, AllocError>
     requires { IsSurvey job.now survey.now }
-    ensures { IfOk result (λ text. IsJobAdvice job.now (first_verdict survey.now.offences)
-        text.items) }
 {
     match survey.verdict() {
         Verdict::Yes => notes_on(alloc, job, survey),
@@ -184,9 +163,11 @@ pub(crate) fn job_advice(
 }
 
 /// The note that no offence is at the address that is asked about, if that is so. Tests hold it.
-fn absent_note(alloc: Global, explained: Explained, survey: &Survey) -> Result<Vec<u8>, AllocError>
-    ensures { IfOk result (λ note. IsAbsentNote explained survey.now.offences note.items) }
-{
+fn absent_note(
+    alloc: Global,
+    explained: Explained,
+    survey: &Survey,
+) -> Result<Vec<u8>, AllocError> {
     match explained {
         Explained::At(address) if offence_at(survey, address).is_none() => {
             Ok(format!(in alloc; "note: no offence at {address:06X}\n")?.into_bytes())
@@ -224,10 +205,7 @@ fn exchange_on(
     offences: &[Offence],
     address: u32,
     reason: Reason,
-) -> Result<Vec<u8>, AllocError>
-    ensures { IfOk result (λ text.
-        IsExchangeAdvice job.now offences.now (No address reason) text.items) }
-{
+) -> Result<Vec<u8>, AllocError> {
     if is_chained_over(offences) {
         return Ok(Vec::new(alloc));
     }
@@ -240,9 +218,7 @@ fn exchange_text(
     job: &Job,
     address: u32,
     reason: Reason,
-) -> Result<Vec<u8>, AllocError>
-    ensures { IfOk result (λ text. IsExchangeNote job.now (No address reason) text.items) }
-{
+) -> Result<Vec<u8>, AllocError> {
     let mut text = Vec::new(alloc);
     if seems_exchanged(alloc, job, Verdict::No { address, reason })? {
         text.extend_from_slice(exchange_note(reason).as_bytes())?;
@@ -251,9 +227,7 @@ fn exchange_text(
 }
 
 /// Whether the first of some offences is at a place that a data chain enters by a transfer.
-fn is_chained_over(offences: &[Offence]) -> bool
-    ensures { result ≡ is_chained_over offences.now }
-{
+fn is_chained_over(offences: &[Offence]) -> bool {
     match offences {
         [first, ..] => first.place.entered != Entry::Fresh && first.place.after_transfer,
         [] => false,
@@ -261,9 +235,7 @@ fn is_chained_over(offences: &[Offence]) -> bool
 }
 
 /// What the limit on places is, and how it may be raised.
-fn limit_text(alloc: Global, limit: Limit) -> Result<Vec<u8>, AllocError>
-    ensures { IfOk result (λ text. text.items ≢ []) }
-{
+fn limit_text(alloc: Global, limit: Limit) -> Result<Vec<u8>, AllocError> {
     let places = limit.get();
     let how = if places == 65_536 {
         ", and none is higher"

@@ -1,8 +1,8 @@
 //! What is said of an image if no job will do for its program.
 
-ghost use Rattle.std.specs.Prelude.{◌≡◌, ◌+◌, ◌≤◌, ◌^◌, length, string_bytes, IfOk};
+ghost use Rattle.std.specs.Prelude.{◌+◌, ◌≤◌, length, string_bytes, IfOk};
 ghost use Rattle.chan_run.specs.Name.{name_in};
-ghost use Rattle.chan_run.specs.NoJob.{IsExplainedOpenly, IsNoJobText, cure_note, comes_of_ends};
+ghost use Rattle.chan_run.specs.NoJob.{IsExplainedOpenly, IsNoJobText};
 ghost use Rattle.chan_walk.specs.JobSurvey.{IsSurvey};
 ghost use Rattle.chan_walk.specs.OpenJob.{IsOpenJob};
 ghost use Rattle.chan_walk.specs.declared.job.Job.{Job};
@@ -160,9 +160,7 @@ fn start_note(
 
 /// Whether a verdict may come from wrong ends of the image: data goes past the end of storage, or
 /// the program that begins at this address has no command there.
-fn comes_of_ends(start: u32, verdict: Verdict) -> bool
-    ensures { result ≡ comes_of_ends start verdict }
-{
+fn comes_of_ends(start: u32, verdict: Verdict) -> bool {
     match verdict {
         Verdict::No { address, reason } => match reason {
             Reason::DataOutside => true,
@@ -175,9 +173,7 @@ fn comes_of_ends(start: u32, verdict: Verdict) -> bool
 
 /// The note on the size of storage, if another one, or another address of the image, may cure the
 /// verdict on a job.
-fn cure_note(alloc: Global, job: &Job, verdict: Verdict) -> Result<String, AllocError>
-    ensures { IfOk result (λ note. string_bytes note ≡ cure_note job.now verdict) }
-{
+fn cure_note(alloc: Global, job: &Job, verdict: Verdict) -> Result<String, AllocError> {
     let size = job.storage.len();
     if comes_of_ends(job.start, verdict) && size < STORAGE_LIMIT {
         return storage_note(alloc, size);

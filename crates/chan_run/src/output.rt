@@ -8,7 +8,7 @@ ghost use Rattle.chan_deck.specs.VerdictLine.{verdict_line};
 ghost use Rattle.chan_walk.specs.Offence.{first_verdict};
 ghost use Rattle.chan_walk.specs.JobSurvey.{IsSurvey};
 ghost use Rattle.chan_run.specs.Name.{heading_of, name_before, name_in};
-ghost use Rattle.chan_run.specs.Output.{AreExplainedCauses, IsActionOutput, IsExplained, IsNeeded};
+ghost use Rattle.chan_run.specs.Output.{IsActionOutput, IsExplained, IsNeeded};
 
 use crate::advice::job_advice;
 use crate::explained_offence::requested_offence;
@@ -22,7 +22,7 @@ use chan_deck::{
 };
 use chan_needs::needs_from;
 use chan_walk::{Evidence, Job, Look, Offence, Place, Survey, Verdict};
-use chan_why::{causes_from, witness_from, witness_of};
+use chan_why::{evidence_from, witness_from, witness_of};
 use std::alloc::{AllocError, Global};
 
 /// What an action asks for of a job that was surveyed, whose input is named so.
@@ -165,7 +165,7 @@ struct Remarks {
 fn remarks_on(alloc: Global, job: &Job, survey: &Survey) -> Result<Remarks, AllocError>
     requires { IsSurvey job.now survey.now }
 {
-    let causes = causes_from(alloc, survey)?;
+    let causes = evidence_from(alloc, survey)?;
     let stored_over = witness_from(alloc, survey)?.stored_over;
     let notes = job_advice(alloc, false, Explained::First, job, survey)?;
     Ok(Remarks {
@@ -218,23 +218,21 @@ pub(crate) fn why_text(
         return offence_text(alloc, job, survey.verdict(), &witness);
     }
     let witness = witness_from(alloc, survey)?;
-    let causes = explained_causes(alloc, explained, job, survey)?;
-    explanation_text(alloc, job, survey, &witness, causes.as_slice())
+    let evidence = explained_evidence(alloc, explained, job, survey)?;
+    explanation_text(alloc, job, survey, &witness, evidence.as_slice())
 }
 
-/// The causes of all offences, or none, if they aren't asked for.
-fn explained_causes(
+/// The evidence for all offences, or none, if it isn't asked for.
+fn explained_evidence(
     alloc: Global,
     explained: Explained,
     job: &Job,
     survey: &Survey,
 ) -> Result<Vec<Evidence>, AllocError>
     requires { IsSurvey job.now survey.now }
-    ensures { IfOk result
-        (λ es. AreExplainedCauses explained job.now survey.now.offences es.items) }
 {
     match explained {
-        Explained::All => causes_from(alloc, survey),
+        Explained::All => evidence_from(alloc, survey),
         _ => Ok(Vec::new(alloc)),
     }
 }

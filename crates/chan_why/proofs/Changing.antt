@@ -5,7 +5,7 @@ use Rattle.chan_walk.specs.declared.evidence.Evidence.TheVariants as because
 use Rattle.ccw_core.specs.Storage.{Stands, is_aligned}
 use Rattle.chan_walk.specs.declared.argument.GivenBytes.{GivenBytes}
 use Rattle.chan_walk.specs.Evidence.{IsArgumentAt}
-use Rattle.chan_why.specs.Cause.{IsSecondPath, IsTakenAt}
+use Rattle.chan_why.specs.Evidence.{IsSecondPath, IsTakenAt}
 use Rattle.chan_walk.specs.declared.argument.Operand.{Operand}
 use Rattle.chan_walk.specs.declared.argument.Operand.TheVariants as operand
 use Rattle.chan_walk.specs.Fault.{begins_set_mask}

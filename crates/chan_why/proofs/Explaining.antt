@@ -1,10 +1,10 @@
 -- The path to a place that offends by the verdict's reason.
-use Rattle.chan_why.proofs.Names.{[], AllZip, arith, Evidence, false, get_or, Has, has_at, HasFound, HasLikeOffence, inl, IsCauseOf, IsFirstWhere, IsLook, IsPathAt, IsReachable, IsSome, IsStoredBefore, IsSurvey, Job, length, List, look_of, None, Offence, offence, Option, Place, place_at, places_of_looks, Reason, refl, reverse, Seen, slice_get, Some, subst, suc, Surveyed, sym, take, true, zero, ℕ, ◌++◌, ◌<◌, ◌∙◌, ◌∷◌, ◌≡◌}
+use Rattle.chan_why.proofs.Names.{[], Evidence, false, get_or, Has, has_at, HasFound, HasLikeOffence, inl, IsCauseOf, IsFirstWhere, IsLook, IsPathAt, IsReachable, IsSome, IsStoredBefore, IsSurvey, Job, length, List, look_of, None, Offence, offence, Option, Place, place_at, places_of_looks, Reason, refl, reverse, Seen, slice_get, Some, subst, Surveyed, sym, true, ℕ, ◌++◌, ◌<◌, ◌∙◌, ◌∷◌, ◌≡◌}
 use Rattle.chan_walk.specs.Alarm.{EachPathShows, IsProper}
 use Rattle.chan_why.specs.Witness.{IsCaseOf, IsEvidenceOf, IsPathOf, IsStoredOver, IsWitness, OffendsAt}
 use Rattle.chan_walk.specs.declared.verdict.Verdict.TheVariants.{No}
 use Rattle.chan_walk.specs.Reason.{is_no_command}
-use Rattle.chan_why.specs.Cause.{IsEvidence}
+use Rattle.chan_why.specs.Evidence.{IsEvidence}
 use Rattle.chan_walk.specs.Offence.{AreOffences, Offending, first_verdict}
 use Rattle.chan_why.proofs.Changing.{first_within}
 use Rattle.chan_why.proofs.Finding.{best_where, path_where, reached_at}
@@ -74,15 +74,6 @@ module _ (j : Job) (s : Surveyed) (is : IsSurvey j s) (o : Offence) (listed : Ha
     evidence = λ places a. evidence_found j s.looks s.found_from is.found s.offences is.offences o listed at l.place places e here a v;
     cause = cause_found j s.looks s.found_from is.found s.offences is.offences o listed at l.place e here first v;
   }
-
--- one more cause
-pub cause_more : (j : Job) (os : List Offence) (i n : ℕ) (d : Offence) (es : List Evidence) (e : Evidence) → i < length os
-    → n ≡ suc i → AllZip (IsCauseOf j) (take i os) es → IsCauseOf j (get_or os i d) e → AllZip (IsCauseOf j) (take n os) (es ++ e ∷ [])
-cause_more j [] i n d es e lt next each cause = absurd (omega (arith, lt))
-cause_more j (o ∷ os) zero n d [] e lt next each cause = rw next (cause, tt)
-cause_more j (o ∷ os) zero n d (v ∷ vs) e lt next each cause = absurd each
-cause_more j (o ∷ os) (suc i) n d [] e lt next each cause = absurd each
-cause_more j (o ∷ os) (suc i) n d (v ∷ vs) e lt next each cause = rw next (each.0, cause_more j os i (suc i) d vs e (omega (arith, lt)) refl each.1 cause)
 
 -- the place that stores over what stands at the path's end
 pub stored_told : (j : Job) (a : ℕ) (r : Reason) (path : List Place) (by shown : Option Place) → IsStoredBefore j (reverse path) by

@@ -8,6 +8,5 @@ pub mod Changing
 pub mod StoredOver
 pub mod Idle
 pub mod Noted
-pub mod Exchanging
 pub mod Hanging
 pub mod Retracing

@@ -31,7 +31,7 @@ pub use Rattle.chan_walk.specs.declared.offence.Offence.{Offence}
 pub use Rattle.chan_walk.specs.declared.place.Entry.{Entry}
 pub use Rattle.chan_walk.specs.declared.place.Place.{Place}
 pub use Rattle.chan_walk.specs.declared.reason.Reason.{Reason}
-pub use Rattle.chan_why.specs.Cause.{IsArgumentIn, IsCause, IsCcwIn}
+pub use Rattle.chan_why.specs.Evidence.{IsArgumentIn, IsCause, IsCcwIn}
 pub use Rattle.chan_why.specs.Finder.{IsAtPlace, IsIndex, IsOfKind, TakesByte, TakesSoFar}
 pub use Rattle.chan_why.specs.Hang.{AddsPredecessor, AreBuckets, ArePredecessors, bucket_of, BucketEndsAt, EndsAfter, EndsTheProgram, FindsMore, HasBefore, IsFirstPlace, IsLeftUnmarked, MarksFound, one_after}
 pub use Rattle.chan_why.specs.Notes.{ends_there, fills_spare, has_byte_of, has_machine_byte, interrupts, is_idle, moves_nothing}
@@ -46,7 +46,7 @@ pub use Rattle.std.proofs.Common.{[], ap, arith, Bool, eqb, false, get_or, inl, 
 pub use Rattle.std.proofs.lemmas.Bool.{and_from, both_ways, cases_eq, cases_lt}
 pub use Rattle.std.proofs.lemmas.List.{append_assoc, get_or_read, take_all}
 pub use Rattle.std.proofs.lemmas.Option.{slice_get-get_or, slice_get_read, slice_get_within}
-pub use Rattle.std.specs.List.{AllZip, filter}
+pub use Rattle.std.specs.List.{filter}
 pub use Rattle.std.specs.Ordering.{nat_cmp}
 unfoldable pub use Rattle.ccw_core.specs.Areas.{lies_in}
 unfoldable pub use Rattle.ccw_core.specs.Ccw.{chains_data, is_transfer}

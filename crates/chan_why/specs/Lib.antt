@@ -1,8 +1,7 @@
 pub mod Path
-pub mod Cause
+pub mod Evidence
 pub mod SecondPath
 pub mod Witness
 pub mod Finder
 pub mod Notes
 pub mod Hang
-pub mod Exchange

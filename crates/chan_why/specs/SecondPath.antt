@@ -6,7 +6,7 @@ use Rattle.chan_walk.specs.declared.evidence.Evidence.TheVariants as because
 use Rattle.chan_walk.specs.declared.job.Job.{Job}
 use Rattle.chan_walk.specs.declared.place.Place.{Place}
 use Rattle.chan_walk.specs.declared.argument.GivenBytes.{GivenBytes}
-use Rattle.chan_why.specs.Cause.{IsArgumentIn, IsTakenAt}
+use Rattle.chan_why.specs.Evidence.{IsArgumentIn, IsTakenAt}
 use Rattle.chan_areas.specs.Merged.{IsLeastOf}
 use Rattle.chan_walk.specs.Guard.{IsArgumentByteOf}
 use Rattle.ccw_core.specs.Areas.{end_of}

@@ -11,7 +11,7 @@ use Rattle.chan_walk.specs.declared.verdict.Verdict.{Verdict}
 use Rattle.chan_walk.specs.declared.verdict.Verdict.TheVariants.{Yes, No}
 use Rattle.chan_walk.specs.Alarm.{ShowsReason}
 use Rattle.chan_walk.specs.Argument.{Has}
-use Rattle.chan_why.specs.Cause.{IsEvidence, IsSecondPath}
+use Rattle.chan_why.specs.Evidence.{IsEvidence, IsSecondPath}
 use Rattle.chan_walk.specs.Place.{data_at, ccw_of}
 use Rattle.chan_why.specs.declared.witness.Witness.{Witness}
 use Rattle.chan_why.specs.SecondPath.{HasByteOf}
@@ -91,7 +91,12 @@ abbrev pub offence_at : ℕ → List Offence → Option Offence
 offence_at a [] = None
 offence_at a (o ∷ os) = if o.place.address == a then Some o else offence_at a os
 
--- ---- the causes of all offences
+-- ---- the first place found
+
+-- the list has an offence at p with the address and the reason of o
+abbrev pub HasLikeOffence : List Offence → Offence → Place → Type 0
+HasLikeOffence os o p = (p.address ≡ o.place.address)
+    × Has os (record { place = p; reason = o.reason })
 
 -- the evidence is that of the last place of the path to a place that offends with the address and
 -- the reason of this offence
@@ -99,13 +104,6 @@ abbrev pub IsCauseOf : Job → Offence → Evidence → Type 0
 IsCauseOf j o e =
     (places : List Place) × IsPathOf j (No o.place.address o.reason) places
     × IsEvidenceOf j (No o.place.address o.reason) places (Some e)
-
--- ---- the first place found
-
--- the list has an offence at p with the address and the reason of o
-abbrev pub HasLikeOffence : List Offence → Offence → Place → Type 0
-HasLikeOffence os o p = (p.address ≡ o.place.address)
-    × Has os (record { place = p; reason = o.reason })
 
 -- the path to the place of this index is the one to a place that offends as the offence does, and
 -- the evidence is that of its last place

@@ -11,7 +11,7 @@
 //! ```
 #![tactic(auto)]
 
-mod cause;
+mod evidence;
 mod exchange;
 mod finder;
 mod hang;
@@ -24,4 +24,4 @@ mod witness;
 pub use crate::exchange::seems_exchanged;
 pub use crate::hang::{can_end, hang_from};
 pub use crate::notes::{Notes, notes_from};
-pub use crate::witness::{Witness, causes_from, offence_at, witness_from, witness_of};
+pub use crate::witness::{Witness, evidence_from, offence_at, witness_from, witness_of};

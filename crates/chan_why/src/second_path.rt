@@ -2,7 +2,7 @@
 
 ghost use Rattle.std.specs.Prelude.{◌≡◌, length, IfOk};
 ghost use Rattle.chan_why.specs.SecondPath.{IsSecondPathEnd};
-ghost use Rattle.chan_why.specs.Cause.{IsCause, IsSecondPath};
+ghost use Rattle.chan_why.specs.Evidence.{IsCause, IsSecondPath};
 ghost use Rattle.chan_why.specs.Finder.{IsIndex, TakesByte};
 ghost use Rattle.chan_walk.specs.JobSurvey.{IsSurvey};
 ghost use Rattle.chan_walk.specs.Look.{AreLooks, places_of_looks};

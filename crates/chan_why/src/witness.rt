@@ -2,10 +2,9 @@
 //! cause.
 
 ghost use Rattle.std.specs.Prelude.{◌≡◌, ◌<◌, true, false, None, IfOk, IfSome, length};
-ghost use Rattle.std.specs.List.{AllZip};
 ghost use Rattle.chan_why.specs.Finder.{FindsFirst};
 ghost use Rattle.chan_why.specs.Witness as specs;
-ghost use Rattle.chan_why.specs.Witness.{IsCaseOf, IsCauseOf, IsWitnessOf};
+ghost use Rattle.chan_why.specs.Witness.{IsCaseOf, IsWitnessOf};
 ghost use Rattle.chan_walk.specs.Argument.{Has};
 ghost use Rattle.chan_walk.specs.JobSurvey.{IsSurvey};
 ghost use Rattle.chan_walk.specs.Look.{places_of_looks};
@@ -14,7 +13,7 @@ ghost use Rattle.chan_walk.specs.Reason.{is_no_command};
 ghost use Rattle.chan_walk.specs.declared.job.Job.{Job};
 ghost use Rattle.chan_walk.specs.declared.verdict.Verdict.TheVariants.{No};
 
-use crate::cause::evidence_at;
+use crate::evidence::evidence_at;
 use crate::finder::Finder;
 use crate::path::{Path, path_at};
 use crate::second_path::second_path;
@@ -125,21 +124,18 @@ fn told_over(reason: Reason, stored_by: Option<Place>) -> Option<Place>
     }
 }
 
-/// The cause of each offence of the job that was surveyed, in the order of `Survey::offences`. It
-/// is that of the place at the end of a path, chosen as for the first offence among the paths to
-/// places that offend with the same address and reason. `AllocError` comes if a growth was refused.
+/// The evidence for each offence of the job that was surveyed, in the order of `Survey::offences`:
+/// that of its witness. `AllocError` comes if a growth was refused. Tests hold the order.
 ///
 /// With n places, the cost is n log n.
-pub fn causes_from(alloc: Global, survey: &Survey) -> Result<Vec<Evidence>, AllocError>
+pub fn evidence_from(alloc: Global, survey: &Survey) -> Result<Vec<Evidence>, AllocError>
     requires { (j : Job) × IsSurvey j survey.now }
-    ensures { IfOk result (λ es. (j : Job) → IsSurvey j survey.now
-        → AllZip (IsCauseOf j) survey.now.offences es.items) }
 {
     let offences = survey.offences();
     let finder = Finder::new(alloc, survey)?;
-    let mut causes = Vec::new(alloc);
+    let mut evidence = Vec::new(alloc);
     for offence in offences {
-        causes.push(case_of(survey, &finder, *offence).1)?;
+        evidence.push(case_of(survey, &finder, *offence).1)?;
     }
-    Ok(causes)
+    Ok(evidence)
 }

@@ -1,5 +1,5 @@
 -- What the text of an explanation to C promises.
-use Rattle.std.specs.Prelude.{◌≡◌, ◌<◌, ℕ, List, [], ◌++◌, drop, length, string_bytes}
+use Rattle.std.specs.Prelude.{◌≡◌, ◌<◌, ℕ, List, ◌++◌, drop, length, string_bytes}
 use Rattle.chan_walk.specs.declared.job.Job.{Job}
 use Rattle.chan_walk.specs.declared.offence.Offence.{Offence}
 use Rattle.chan_walk.specs.declared.verdict.Verdict.{Verdict}
@@ -24,7 +24,7 @@ pub record IsTextOn (job : Job) (t : VerdictText) : Type 0 where
   pub first : t.verdict ≡ first_verdict offences
   pub witness : Witness
   pub shows : IsWitnessOf job t.verdict witness
-  pub text : IsExplanationText job offences [] witness (string_bytes t.text)
+  pub text : IsExplanationText job offences witness (string_bytes t.text)
 
 -- it is on the job that C asks about
 abbrev pub IsText : CJob → VerdictText → Type 0

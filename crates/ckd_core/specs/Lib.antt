@@ -1,7 +1,6 @@
 pub mod Device
 pub mod Command
 pub mod Entries
-pub mod Further
 pub mod Mask
 pub mod Levels
 pub mod Extents

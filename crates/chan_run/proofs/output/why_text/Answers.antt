@@ -24,12 +24,7 @@ returns c =
     let s = c.requires in
     let os = c.args.survey.now.offences in
     let asked : requested_offence os c.args.explained ≡ None = sym c.requested_offence.ensures.asked ∙ c.in_default.is in
-    let es = c.in_ok-causes in
     let w = c.in_ok-witness-2 in
-    IfOk-weaker c.explanation_text.result _ _ (λ text is. (
-      os,
-      s.offences,
-      refl,
-      rw asked (es.causes.items, w.witness, w.ensures c.args.job.now s, es.ensures, is),
-    ))
-    (rw c.as_slice.ensures.value at c.explanation_text.ensures)
+    IfOk-weaker c.explanation_text.result _ _ (λ text is.
+    (os, s.offences, refl, rw asked (w.witness, w.ensures c.args.job.now s, is)))
+    c.explanation_text.ensures
