@@ -1,5 +1,9 @@
--- What was seen of a job is listed as the job's places are.
-use Rattle.chan_deck.proofs.Names.{[], address_text, ap, codes, flat_map, if◌then◌else◌, inl, inr, Job, List, marked_row, None, Option, Place, refl, seen_row, Some, storage_of, verdict_line, ◌++◌, ◌∙◌, ◌∷◌, ◌≡◌}
+-- What was seen of a job is listed as the job's places are; and rows that are written one after
+-- another.
+use Rattle.chan_deck.proofs.Names.{[], address_text, ap, append-nil, append_assoc, Appends, AppendsPrefix, arith, codes, flat_map-append, length, prefix_of_more, flat_map, if◌then◌else◌, inl, inr, Job, List, marked_row, None, Option, Place, refl, seen_row, Some, storage_of, verdict_line, ℕ, ◌++◌, ◌∙◌, ◌∷◌, ◌≡◌}
+use Rattle.std.proofs.Math.Seq.{take-length}
+use Rattle.std.proofs.KnownBytes.{Appends-trans}
+use Rattle.ccw_core.proofs.Prefixes.{prefix_after}
 use Rattle.ccw_core.specs.Ccw.{Fields}
 use Rattle.ccw_core.specs.Storage.{ccw_at}
 use Rattle.ckd_core.specs.Command.{lookup}
@@ -38,3 +42,21 @@ rows_seen j v (l ∷ ls) h =
 
 pub listing_seen : (j : Job) (v : Verdict) (ls : List Seen) → AreLooks j ls → seen_listing ls v ≡ listing (storage_of j) (places_of_looks ls) v
 listing_seen j v ls h = ap (λ t. t ++ verdict_line v) (rows_seen j v ls h)
+
+-- ---- row after row
+
+-- one row more was written
+pub row_added : {X : Type 0} (f : X → List ℕ) (done : List X) (x : X) (a b c : Option (List ℕ))
+    → Appends a b (flat_map f done) → Appends b c (f x) → Appends a c (flat_map f (done ++ x ∷ []))
+row_added f done x a b c rows row = rw (flat_map-append f done (x ∷ []), append-nil (f x)) (Appends-trans a b c (flat_map f done) (f x) rows row)
+
+-- a row was written in part
+pub row_begun : {X : Type 0} (f : X → List ℕ) (done : List X) (x : X) (rest : List X) (a b c : Option (List ℕ))
+    → Appends a b (flat_map f done) → AppendsPrefix b c (f x) → AppendsPrefix a c (flat_map f (done ++ x ∷ rest))
+row_begun f done x rest a b c rows row =
+    rw (flat_map-append f done (x ∷ rest), ← append_assoc)
+    (prefix_of_more a c (flat_map f done ++ f x) (flat_map f rest) (prefix_after a b c (flat_map f done) (f x) rows row))
+
+-- what was written whole was begun
+pub all_begun : (a b : Option (List ℕ)) (text : List ℕ) → Appends a b text → AppendsPrefix a b text
+all_begun a b text written = record { count = length text; within = omega arith; grown = rw take-length written }

@@ -11,7 +11,6 @@ pub use Rattle.chan_deck.specs.PartsImage.{image_of_parts, storage_with, zeros}
 pub use Rattle.chan_deck.specs.Reading.{after_item, after_line, and_then, begun_state, Filling, HasRead, image_of, is_empty, is_whole, IsDeckError, Listing, Masked, Named, on_extent, on_put, OnDevice, Opening, pad, ReadingGoesOn, run, stands, Started, State, step, Whole, with_lists}
 pub use Rattle.chan_deck.specs.Refused.{FoundLine, is_limit, is_second, is_size, IsDeckCause, IsRefusedAt, last_of, lines, part, rank, whole_line}
 pub use Rattle.chan_deck.specs.VerdictLine.{address_text, verdict_line}
-pub use Rattle.chan_deck.specs.WrittenInPieces.{AppendsInPieces, IsHeldBack}
 pub use Rattle.chan_deck.specs.declared.cause.Cause.{Cause}
 pub use Rattle.chan_deck.specs.declared.heading.Heading.{Heading}
 pub use Rattle.chan_deck.specs.declared.version.Version.{Version}

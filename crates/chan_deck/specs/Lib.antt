@@ -8,7 +8,6 @@ pub mod PreambleImage
 pub mod PartsImage
 pub mod SameDecks
 pub mod VerdictLine
-pub mod WrittenInPieces
 pub mod Listing
 pub mod Explanation
 pub mod Graph

@@ -44,7 +44,7 @@ pub use crate::error::DeckError;
 pub use crate::explanation::{explanation_text, offence_text};
 pub use crate::graph::{Picture, graph_text};
 pub use crate::hint::hint_text;
-pub use crate::listing::{ListError, ccw_line, row_text, write_listing, write_seen};
+pub use crate::listing::{ListError, ccw_line, listing_text, row_text, write_listing};
 pub use crate::needs::{in_six_digits, needs_text};
 pub use crate::notes::{exchange_note, notes_text, storage_note};
 pub use crate::parts::{Parts, parts_text, place_image};

@@ -1,18 +1,13 @@
 //! The listing of the places that a program can come to.
 
 ghost use Rattle.std.specs.Prelude.{◌≡◌, ◌↔◌, ◌++◌, false, true, option_map, string_bytes};
-ghost use Rattle.std.specs.Prelude.{IfOk, IsErr, IsErrOf, OnOk};
+ghost use Rattle.std.specs.Prelude.{IfOk, IsErrOf, OnOk};
 ghost use Rattle.ckd_core.specs.Entries.{entry_of};
-ghost use Rattle.std.specs.List.{flat_map};
 ghost use Rattle.std.specs.Io.KnownBytes.{Appends};
 ghost use Rattle.ccw_core.specs.Written.{AppendsPrefix};
 ghost use Rattle.ccw_core.specs.Storage.{ccw_at};
 ghost use Rattle.chan_deck.specs.Listing as list;
-ghost use Rattle.chan_deck.specs.WrittenInPieces.{IsHeldBack, AppendsInPieces, BreaksOff};
-ghost use Rattle.chan_deck.specs.VerdictLine.{verdict_line};
 ghost use Rattle.chan_walk.specs.Job.{storage_of};
-ghost use Rattle.chan_walk.specs.Look.{AreLooks, places_of_looks};
-ghost use Rattle.chan_walk.specs.declared.job.Job.{Job};
 
 use crate::texts::{Address, verdict_text};
 use ccw_core::{Ccw, DeviceFault, Watched, write_out};
@@ -22,10 +17,6 @@ use std::alloc::{AllocError, Global};
 use std::fmt::Write as _;
 use std::io::Write;
 use thiserror::Error;
-
-/// A listing is written in pieces of whole lines. A piece ends with the line that reaches so many
-/// bytes, so pieces of rows stay below the 4,096 bytes that a pipe takes whole (`PIPE_BUF`).
-const PIECE: usize = 3968;
 
 /// Why a listing was not written whole.
 #[derive(Clone, Copy, PartialEq, Eq, Debug, Error)]
@@ -206,127 +197,53 @@ fn is_named(verdict: Verdict, address: u32) -> bool
     }
 }
 
-/// Writes a text out and empties it, once it is long enough. Each call leaves bytes behind that,
-/// after those that were written, are the text as it was.
-#[tactic(auto, using(crate::proofs::Pieces::all_held, crate::proofs::Pieces::all_written))]
-pub(crate) fn hand_over<W: Write>(
-    piece: &mut String,
-    to: &mut Watched<W>,
-) -> Result<(), DeviceFault>
-    requires { to.old.failed ≡ false }
-    ensures ok { OnOk result (IsHeldBack (W.contents to.old.device) (W.contents to.new.device)
-        (string_bytes piece.old) (string_bytes piece.new)) }
-    ensures prefix { AppendsPrefix (W.contents to.old.device) (W.contents to.new.device)
-        (string_bytes piece.old) }
-    ensures fault { IsErr result ↔ (to.new.failed ≡ true) }
-{
-    if piece.len() < PIECE {
-        return Ok(());
-    }
-    write_out(piece.as_bytes(), to)?;
-    piece.clear();
-    Ok(())
-}
-
-/// Adds the row of a place to the text that is held back, and writes that once it is long enough.
+/// Writes the row of a place, marked where the verdict names its address.
 fn write_row<W: Write>(
     alloc: Global,
-    piece: &mut String,
+    job: &Job,
     place: Place,
-    ccw: Option<Ccw>,
-    command: Option<Command>,
-    marked: bool,
+    verdict: Verdict,
     to: &mut Watched<W>,
 ) -> Result<(), ListError>
     requires { to.old.failed ≡ false }
-    ensures ok { OnOk result (IsHeldBack (W.contents to.old.device) (W.contents to.new.device)
-        (string_bytes piece.old ++ list.row_with place ccw (option_map entry_of command) marked)
-        (string_bytes piece.new)) }
+    ensures ok { OnOk result (Appends (W.contents to.old.device) (W.contents to.new.device)
+        (list.marked_row (storage_of job.now) verdict place)) }
     ensures prefix { AppendsPrefix (W.contents to.old.device) (W.contents to.new.device)
-        (string_bytes piece.old ++ list.row_with place ccw (option_map entry_of command) marked) }
+        (list.marked_row (storage_of job.now) verdict place) }
     ensures write { IsErrOf result ListError.Write ↔ (to.new.failed ≡ true) }
 {
-    push_row(alloc, piece, place, ccw, command, marked)?;
-    hand_over(piece, to)?;
+    let row = row_text(alloc, job, place, is_named(verdict, place.address))?;
+    write_out(row.as_bytes(), to)?;
     Ok(())
 }
 
-/// Adds the row of each place in this way, marked where the verdict names its address.
-fn write_places<W: Write>(
+/// Writes the row of each place in this way.
+fn write_rows<W: Write>(
     alloc: Global,
-    piece: &mut String,
     job: &Job,
     explored: &Explored,
     verdict: Verdict,
     to: &mut Watched<W>,
 ) -> Result<(), ListError>
     requires { to.old.failed ≡ false }
-    ensures ok { OnOk result (AppendsInPieces (W.contents to.old.device) (string_bytes piece.old)
-        (list.rows (storage_of job.now) verdict explored.now)
-        (W.contents to.new.device) (string_bytes piece.new)) }
-    ensures prefix { BreaksOff (W.contents to.old.device) (string_bytes piece.old)
-        (list.rows (storage_of job.now) verdict explored.now) (W.contents to.new.device) }
+    ensures ok { OnOk result (Appends (W.contents to.old.device) (W.contents to.new.device)
+        (list.rows (storage_of job.now) verdict explored.now)) }
+    ensures prefix { AppendsPrefix (W.contents to.old.device) (W.contents to.new.device)
+        (list.rows (storage_of job.now) verdict explored.now) }
     ensures write { IsErrOf result ListError.Write ↔ (to.new.failed ≡ true) }
 {
     for place in explored.places() {
-        let (ccw, command) = standing_at(job, place.address);
-        let marked = is_named(verdict, place.address);
-        write_row(alloc, piece, place, ccw, command, marked, to)?;
+        write_row(alloc, job, place, verdict, to)?;
     }
-    Ok(())
-}
-
-/// Adds the row of each look in the same way.
-fn write_looks<W: Write>(
-    alloc: Global,
-    piece: &mut String,
-    looks: &[Look],
-    named: Verdict,
-    to: &mut Watched<W>,
-) -> Result<(), ListError>
-    requires { to.old.failed ≡ false }
-    ensures ok { OnOk result (AppendsInPieces (W.contents to.old.device) (string_bytes piece.old)
-        (flat_map (list.seen_row named) looks.now)
-        (W.contents to.new.device) (string_bytes piece.new)) }
-    ensures prefix { BreaksOff (W.contents to.old.device) (string_bytes piece.old)
-        (flat_map (list.seen_row named) looks.now) (W.contents to.new.device) }
-    ensures write { IsErrOf result ListError.Write ↔ (to.new.failed ≡ true) }
-{
-    for look in looks {
-        let place = look.place();
-        let marked = is_named(named, place.address);
-        write_row(alloc, piece, place, look.ccw(), look.command(), marked, to)?;
-    }
-    Ok(())
-}
-
-/// Writes what is held back, and then the line of the verdict.
-fn write_end<W: Write>(
-    alloc: Global,
-    piece: String,
-    verdict: Verdict,
-    to: &mut Watched<W>,
-) -> Result<(), ListError>
-    requires { to.old.failed ≡ false }
-    ensures ok { OnOk result (Appends (W.contents to.old.device) (W.contents to.new.device)
-        (string_bytes piece ++ verdict_line verdict)) }
-    ensures prefix { AppendsPrefix (W.contents to.old.device) (W.contents to.new.device)
-        (string_bytes piece ++ verdict_line verdict) }
-    ensures write { IsErrOf result ListError.Write ↔ (to.new.failed ≡ true) }
-{
-    let mut piece = piece;
-    let line = verdict_text(alloc, verdict)?;
-    piece.push_str(line.as_str())?;
-    write_out(piece.as_bytes(), to)?;
     Ok(())
 }
 
 /// Writes a row for each of the places, in order, and then the line of the verdict. The rows whose
 /// address the verdict names are marked.
 ///
-/// The rows are written in pieces of a few thousand bytes: no text of the whole listing is held.
-/// `Write` comes exactly if a write failed. After an error a prefix of the listing was written. The
-/// places and the verdict are taken as the caller hands them in, whether or not they are the job's.
+/// Each row is written with one write: no text of the whole listing is held. `Write` comes exactly
+/// if a write failed. After an error a prefix of the listing was written. The places and the
+/// verdict are taken as the caller hands them in, whether or not they are the job's.
 pub fn write_listing<W: Write>(
     alloc: Global,
     job: &Job,
@@ -341,35 +258,38 @@ pub fn write_listing<W: Write>(
         (list.listing (storage_of job.now) explored.now verdict) }
     ensures write { IsErrOf result ListError.Write ↔ (to.new.failed ≡ true) }
 {
-    let mut piece = String::new(alloc);
-    write_places(alloc, &mut piece, job, explored, verdict, to)?;
-    write_end(alloc, piece, verdict, to)
+    write_rows(alloc, job, explored, verdict, to)?;
+    let line = verdict_text(alloc, verdict)?;
+    write_out(line.as_bytes(), to)?;
+    Ok(())
 }
 
-/// Writes the listing of a job that was judged: a row for each of its reachable places, in order,
-/// and then the line of its verdict. Nothing is looked at again.
-///
-/// The output and the errors are those of `write_listing` for the job, its reachable places and its
-/// verdict.
-pub fn write_seen<W: Write>(
-    alloc: Global,
-    looks: &[Look],
-    verdict: Verdict,
-    to: &mut Watched<W>,
-) -> Result<(), ListError>
-    requires { to.old.failed ≡ false }
-    ensures ok { OnOk result (Appends (W.contents to.old.device) (W.contents to.new.device)
-        (list.seen_listing looks.now verdict)) }
-    ensures prefix { AppendsPrefix (W.contents to.old.device) (W.contents to.new.device)
-        (list.seen_listing looks.now verdict) }
-    ensures write { IsErrOf result ListError.Write ↔ (to.new.failed ≡ true) }
-
-    // It is the listing of the job that was judged.
-    ensures listing { (j : Job) → AreLooks j looks.now
-        → list.seen_listing looks.now verdict
-        ≡ list.listing (storage_of j) (places_of_looks looks.now) verdict }
+/// The listing of a job that was judged: a row for each of its reachable places, in order, and then
+/// the line of its verdict, as `write_listing` writes them. Nothing is looked at again. An error
+/// means that an allocation failed.
+pub fn listing_text(alloc: Global, looks: &[Look], verdict: Verdict) -> Result<String, AllocError>
+    ensures { IfOk result (λ t. string_bytes t ≡ list.seen_listing looks.now verdict) }
 {
-    let mut piece = String::new(alloc);
-    write_looks(alloc, &mut piece, looks, verdict, to)?;
-    write_end(alloc, piece, verdict, to)
+    let mut text = String::new(alloc);
+    for look in looks {
+        push_look(alloc, &mut text, look, verdict)?;
+    }
+    let line = verdict_text(alloc, verdict)?;
+    text.push_str(line.as_str())?;
+    Ok(text)
+}
+
+/// Adds the row of what a look showed, marked where the verdict names its address.
+fn push_look(
+    alloc: Global,
+    out: &mut String,
+    look: &Look,
+    verdict: Verdict,
+) -> Result<(), AllocError>
+    ensures { OnOk result (string_bytes out.new
+        ≡ string_bytes out.old ++ list.seen_row verdict look.now) }
+{
+    let place = look.place();
+    let marked = is_named(verdict, place.address);
+    push_row(alloc, out, place, look.ccw(), look.command(), marked)
 }

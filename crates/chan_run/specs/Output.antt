@@ -55,20 +55,23 @@ abbrev pub requested_offence : List Offence → Explained → Option Offence
 requested_offence os (tells.At a) = offence_at a os
 requested_offence os told = None
 
--- these offences are explained: the first of them, beside the others, or the one that is asked
--- about
-abbrev pub IsExplanation : Explained → Job → List Offence → Option Offence → List ℕ → Type 0
-IsExplanation told j os None text =
-    (w : Witness) × IsWitnessOf j (first_verdict os) w × IsExplanationText j os w text
-IsExplanation told j os (Some o) text =
-    (w : Witness) × IsWitnessOf j (No o.place.address o.reason) w
-    × IsOffenceText j (first_verdict os) w text
+-- the verdict whose witness is shown: that of the offence that is asked about, or of the first
+abbrev pub shown_verdict : List Offence → Option Offence → Verdict
+shown_verdict os None = first_verdict os
+shown_verdict os (Some o) = No o.place.address o.reason
+
+-- the text explains these offences by a witness: the first of them, beside the others, or the one
+-- that is asked about
+abbrev pub IsExplanation : Job → List Offence → Option Offence → Witness → List ℕ → Type 0
+IsExplanation j os None w text = IsExplanationText j os w text
+IsExplanation j os (Some o) w text = IsOffenceText j (first_verdict os) w text
 
 -- this is the explanation of the verdict on the job
 abbrev pub IsExplained : Explained → Job → Verdict → List ℕ → Type 0
 IsExplained told j v text =
-    (os : List Offence) × AreOffences j os × (v ≡ first_verdict os)
-    × IsExplanation told j os (requested_offence os told) text
+    (os : List Offence) × (w : Witness) × AreOffences j os × (v ≡ first_verdict os)
+    × IsWitnessOf j (shown_verdict os (requested_offence os told)) w
+    × IsExplanation j os (requested_offence os told) w text
 
 -- a deck, but for its job, which grants just what is needed; it has one extent or more
 abbrev pub extents_for : List (ℕ × ℕ) → List (ℕ × ℕ)

@@ -20,6 +20,7 @@ use Rattle.chan_run.specs.Name.{name_of}
 use Rattle.chan_run.specs.Outcome.{IsCarriedOut, line_over}
 use Rattle.chan_run.specs.Output.{IsActionOutput, HoldsOfDeckJob, ActionJudges}
 use Rattle.chan_run.specs.Texts.{WriterGot}
+use Rattle.chan_run.specs.declared.answer.Answer.{Answer}
 use Rattle.chan_run.specs.declared.failure.Failure.{Failure}
 use Rattle.chan_run.specs.declared.failure.Failure.TheVariants as failures
 use Rattle.chan_run.specs.declared.name.Naming.{Naming}
@@ -37,6 +38,13 @@ advice_in = option_map (λ text. text.items)
 abbrev pub IsWantedAdvice : Bool → Option (List ℕ) → Type 0
 IsWantedAdvice false advice = advice ≡ Some []
 IsWantedAdvice true advice = Unit {0}
+
+-- the answer to an action on a job with this verdict: the output that it asks for, with advice if
+-- the verdict is explained or the needs are listed
+pub record IsActionAnswer (n : Naming) (a : Action) (j : Job) (v : Verdict) (answer : Answer)
+    : Type 0 where
+  pub output : IsActionOutput n a j v answer.output.items
+  pub advice : IsWantedAdvice (is_advised a) (advice_in answer.advice)
 
 -- only this outcome and this note, without an output or advice
 pub record IsBareResponse (end : Outcome) (remark : List ℕ) (r : Response) : Type 0 where
@@ -56,8 +64,7 @@ abbrev pub outcome_of : Verdict → Outcome
 outcome_of Yes = Done
 outcome_of (No address reason) = Denied
 
--- the job was judged: the output is what the action asks for, with advice if it is explained or
--- its needs are listed
+-- the job was judged, and this is the answer of its verdict
 pub record IsVerdictResponse (n : Naming) (a : Action) (j : Job) (r : Response) : Type 0 where
   pub verdict : Verdict
   pub is : IsAnswer j verdict

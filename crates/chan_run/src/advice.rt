@@ -3,16 +3,16 @@
 ghost use Rattle.std.specs.Prelude.{◌≡◌, ◌||◌, is_some};
 ghost use Rattle.chan_args.specs.Actions.{is_why};
 ghost use Rattle.chan_walk.specs.JobSurvey.{IsSurvey};
-ghost use Rattle.chan_run.specs.Advice.{always_hints, is_advised};
+ghost use Rattle.chan_run.specs.Advice.{always_hints};
 ghost use Rattle.chan_run.specs.Response.{IsWantedAdvice, advice_in};
 
-use crate::explained_offence::explained_offence;
+use crate::explained::explained_offence;
 use crate::help::{help_text, unseen_note};
 use crate::name::{Naming, named};
 use chan_args::{Action, Explained};
 use chan_deck::{Cause, exchange_note, hint_text, notes_text};
 use chan_walk::{Entry, Job, Limit, Offence, Reason, Survey, Verdict};
-use chan_why::{hang_from, notes_from, offence_at, seems_exchanged};
+use chan_why::{Witness, hang_from, notes_from, offence_at, seems_exchanged};
 use std::alloc::{AllocError, Global};
 
 /// What is said beside the needs of a program if no job will do.
@@ -61,35 +61,13 @@ pub(crate) fn limit_advice(
     fronted(alloc, naming, text.as_slice()).ok()
 }
 
-/// For `Why` and `Needs`, the advice on a job that was surveyed.
-pub(crate) fn action_advice(
-    alloc: Global,
-    naming: Naming<'_>,
-    action: Action,
-    job: &Job,
-    survey: &Survey,
-) -> Option<Vec<u8>>
-    requires { IsSurvey job.now survey.now }
-    ensures { IsWantedAdvice (is_advised action) (advice_in result) }
-{
-    let text = match action {
-        Action::Why(explained) => {
-            why_advice(alloc, naming.name.is_some(), explained, job, survey).ok()?
-        }
-        Action::Needs { .. } => needs_advice(alloc, survey.verdict()).ok()?,
-        _ => return Some(Vec::new(alloc)),
-    };
-    fronted(alloc, naming, text.as_slice()).ok()
-}
-
 /// The advice on what a program needs that was surveyed under its open job: a note if the verdict
 /// is no.
-fn needs_advice(alloc: Global, verdict: Verdict) -> Result<Vec<u8>, AllocError> {
-    let mut text = Vec::new(alloc);
-    if let Verdict::No { .. } = verdict {
-        text.extend_from_slice(NO_JOB.as_bytes())?;
+pub(crate) fn needs_advice(alloc: Global, naming: Naming<'_>, verdict: Verdict) -> Option<Vec<u8>> {
+    match verdict {
+        Verdict::No { .. } => fronted(alloc, naming, NO_JOB.as_bytes()).ok(),
+        Verdict::Yes => Some(Vec::new(alloc)),
     }
-    Ok(text)
 }
 
 /// A text with the name of one of several inputs before each line.
@@ -123,21 +101,23 @@ fn notes_on(alloc: Global, job: &Job, survey: &Survey) -> Result<Vec<u8>, AllocE
     Ok(notes_text(alloc, job.storage, &notes, hang)?.into_bytes())
 }
 
-/// What is said of a verdict that is explained. Before it stands that no offence is at the address
-/// that is asked about, if that is so.
-fn why_advice(
+/// What is said of a verdict that is explained by a witness: that no offence is at the address that
+/// is asked about, if that is so, and the advice on the job.
+pub(crate) fn why_advice(
     alloc: Global,
-    named: bool,
+    naming: Naming<'_>,
     explained: Explained,
     job: &Job,
     survey: &Survey,
-) -> Result<Vec<u8>, AllocError>
+    witness: &Witness,
+) -> Option<Vec<u8>>
     requires { IsSurvey job.now survey.now }
 {
-    let mut text = absent_note(alloc, explained, survey)?;
-    let said = job_advice(alloc, named, explained, job, survey)?;
-    text.extend_from_slice(said.as_slice())?;
-    Ok(text)
+    let named = naming.name.is_some();
+    let mut text = absent_note(alloc, explained, survey).ok()?;
+    let said = job_advice(alloc, named, explained, job, survey, witness).ok()?;
+    text.extend_from_slice(said.as_slice()).ok()?;
+    fronted(alloc, naming, text.as_slice()).ok()
 }
 
 /// The notes on a yes; on a no, the note that the areas seem exchanged, if they do, and how to cure
@@ -148,6 +128,7 @@ pub(crate) fn job_advice(
     explained: Explained,
     job: &Job,
     survey: &Survey,
+    witness: &Witness,
 ) -> Result<Vec<u8>, AllocError>
     requires { IsSurvey job.now survey.now }
 {
@@ -155,8 +136,11 @@ pub(crate) fn job_advice(
         Verdict::Yes => notes_on(alloc, job, survey),
         Verdict::No { address, reason } => {
             let mut said = exchange_on(alloc, job, survey.offences(), address, reason)?;
-            let cure = cure_of(alloc, named, explained, job, survey)?;
-            said.extend_from_slice(cure.as_slice())?;
+            said.extend_from_slice(unseen_note(survey).as_bytes())?;
+            if named {
+                let help = help_on(alloc, explained, job, survey, witness)?;
+                said.extend_from_slice(help.as_bytes())?;
+            }
             Ok(said)
         }
     }
@@ -176,25 +160,18 @@ fn absent_note(
     }
 }
 
-/// How to cure a no: which CCWs weren't looked at, and, for a named input, the lines of help.
-fn cure_of(
+/// The lines of help on the offence that is explained.
+fn help_on(
     alloc: Global,
-    named: bool,
     explained: Explained,
     job: &Job,
     survey: &Survey,
-) -> Result<Vec<u8>, AllocError>
-    requires { IsSurvey job.now survey.now }
-{
-    let mut text = String::from_str(alloc, unseen_note(survey))?;
+    witness: &Witness,
+) -> Result<String, AllocError> {
     match explained_offence(survey, explained) {
-        Some(offence) if named => {
-            let help = help_text(alloc, job, survey, offence)?;
-            text.push_str(help.as_str())?;
-        }
-        _ => {}
+        Some(offence) => help_text(alloc, job, witness, offence.reason),
+        None => Ok(String::new(alloc)),
     }
-    Ok(text.into_bytes())
 }
 
 /// The note on a no with this address and this reason that the areas seem exchanged, if they do,

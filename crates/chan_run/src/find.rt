@@ -148,10 +148,7 @@ fn program_line(
         → IfOk result (λ line. IsLineAt options.now image start (string_bytes line)) }
 {
     let job = job_at(options, storage, start);
-    let open = match OpenJob::of(alloc, &job) {
-        Ok(open) => open,
-        Err(_) => return Err(AllocError),
-    };
+    let open = OpenJob::of(alloc, &job)?;
     let open_job = open.job();
     match survey(alloc, &open_job) {
         Ok(survey) => {

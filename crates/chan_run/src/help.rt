@@ -1,29 +1,23 @@
 //! How to cure a no: the lines of help behind its explanation. Tests hold the texts.
 
-ghost use Rattle.chan_walk.specs.Argument.{Has};
-ghost use Rattle.chan_walk.specs.JobSurvey.{IsSurvey};
-
 use ccw_core::Area;
-use chan_walk::{Entry, Evidence, Job, Offence, Outside, Place, Survey};
-use chan_why::{Witness, witness_of};
+use chan_walk::{Entry, Evidence, Job, Outside, Place, Reason, Survey};
+use chan_why::Witness;
 use ckd_core::{Command, Device, FileMask, Kind, lookup};
 use std::alloc::{AllocError, Global};
 use std::fmt::Write as _;
 
-/// The lines of help on an offence of a job that was surveyed: the line of a deck that cures it, or
-/// what to change in the program, and which word to look up.
+/// The lines of help on an offence with this witness and this reason: the line of a deck that cures
+/// it, or what to change in the program, and which word to look up.
 pub(crate) fn help_text(
     alloc: Global,
     job: &Job,
-    survey: &Survey,
-    offence: Offence,
-) -> Result<String, AllocError>
-    requires { IsSurvey job.now survey.now × Has survey.now.offences offence }
-{
-    let witness = witness_of(alloc, survey, offence)?;
+    witness: &Witness,
+    reason: Reason,
+) -> Result<String, AllocError> {
     let mut text = String::new(alloc);
-    push_cure(&mut text, job, &witness)?;
-    let word = offence.reason.word();
+    push_cure(&mut text, job, witness)?;
+    let word = reason.word();
     write!(text, "help: chanv explain {word}\n")?;
     Ok(text)
 }

@@ -159,10 +159,7 @@ fn needs_of(alloc: Global, job: &Job<'_>) -> Result<Needs, Outcome>
     ensures err { IfErr result (λ e. (o : ImageOptions) (image : List ℕ)
         → IsProgramIn o image job.now → HasNoNeeds o image e) }
 {
-    let open = match OpenJob::of(alloc, job) {
-        Ok(open) => open,
-        Err(_) => return Err(Outcome::Failed(Failure::OutOfMemory)),
-    };
+    let open = OpenJob::of(alloc, job)?;
     let open_job = open.job();
     let survey = match survey(alloc, &open_job) {
         Ok(survey) => survey,

@@ -18,12 +18,13 @@
 #![tactic(auto)]
 
 mod advice;
+mod answer;
 mod bases;
 mod beginning;
 mod deck_parts;
 mod decks;
 mod delivery;
-mod explained_offence;
+mod explained;
 mod extra_word;
 mod failure;
 mod find;

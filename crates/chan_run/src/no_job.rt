@@ -8,15 +8,15 @@ ghost use Rattle.chan_walk.specs.OpenJob.{IsOpenJob};
 ghost use Rattle.chan_walk.specs.declared.job.Job.{Job};
 ghost use Rattle.ccw_core.specs.declared.ccw.TheConstants.{STORAGE_LIMIT};
 
+use crate::explained::{explained_witness, why_text};
 use crate::image_options::ImageOptions;
 use crate::least_job::job_at;
 use crate::name::named;
-use crate::output::why_text;
 use ccw_core::{Area, STORAGE_LIMIT, Storage};
 use chan_args::Explained;
 use chan_deck::{place_image, storage_note};
 use chan_walk::{Evidence, Job, OpenJob, Reason, Survey, Verdict, WalkError, survey};
-use chan_why::{Witness, witness_from};
+use chan_why::Witness;
 use std::alloc::{AllocError, Global};
 
 /// What is said of an image, which may have a name, if no job will do for its program.
@@ -51,10 +51,7 @@ fn open_explanation(alloc: Global, job: &Job, read: Area) -> Result<String, Walk
     ensures { IfOk result (λ text. (k : Job) × IsOpenJob job.now k
         × IsExplainedOpenly k (string_bytes text)) }
 {
-    let open = match OpenJob::of(alloc, job) {
-        Ok(open) => open,
-        Err(_) => return Err(WalkError::Memory),
-    };
+    let open = OpenJob::of(alloc, job)?;
     let open_job = open.job();
     let survey = survey(alloc, &open_job)?;
     Ok(surveyed_explanation(alloc, &open_job, &survey, read)?)
@@ -70,9 +67,10 @@ fn surveyed_explanation(
     requires { IsSurvey open_job.now survey.now }
     ensures { IfOk result (λ text. IsExplainedOpenly open_job.now (string_bytes text)) }
 {
-    let explanation = why_text(alloc, Explained::First, open_job, survey)?;
+    let witness = explained_witness(alloc, Explained::First, open_job, survey)?;
+    let explanation = why_text(alloc, Explained::First, open_job, survey, &witness)?;
     let cure = cure_note(alloc, open_job, survey.verdict())?;
-    let unread = unread_notes(alloc, open_job, survey, read)?;
+    let unread = unread_notes(alloc, open_job, survey.verdict(), &witness, read)?;
     Ok(format!(in alloc; "{explanation}{cure}{unread}")?)
 }
 
@@ -80,14 +78,12 @@ fn surveyed_explanation(
 fn unread_notes(
     alloc: Global,
     open_job: &Job,
-    survey: &Survey,
+    verdict: Verdict,
+    witness: &Witness,
     read: Area,
-) -> Result<String, AllocError>
-    requires { IsSurvey open_job.now survey.now }
-{
-    let witness = witness_from(alloc, survey)?;
-    let outside = outside_note(alloc, open_job, &witness, read)?;
-    let start = start_note(alloc, open_job, survey.verdict(), read)?;
+) -> Result<String, AllocError> {
+    let outside = outside_note(alloc, open_job, witness, read)?;
+    let start = start_note(alloc, open_job, verdict, read)?;
     format!(in alloc; "{outside}{start}")
 }
 

@@ -9,11 +9,11 @@ ghost use Rattle.chan_run.specs.Response.{IsVerdictResponse};
 ghost use Rattle.chan_run.specs.declared.failure.Failure.TheVariants as failures;
 ghost use Rattle.chan_run.specs.declared.outcome.Outcome.TheVariants.{Failed};
 
-use crate::advice::{action_advice, limit_advice, refusal_advice};
+use crate::advice::{limit_advice, refusal_advice};
+use crate::answer::answer_of;
 use crate::failure::Failure;
 use crate::name::Naming;
 use crate::outcome::Outcome;
-use crate::output::output_of;
 use ccw_core::Storage;
 use chan_args::Action;
 use chan_deck::{Cause, DeckError, read_deck};
@@ -119,13 +119,10 @@ fn respond_to_job(
     ensures { IfOk result (IsJobResponse naming.entry action job.now) }
 {
     match action {
-        Action::Needs { deck } => match OpenJob::of(alloc, job) {
-            Ok(open) => {
-                let open_job = open.job();
-                respond_to_judged_job(alloc, naming, Action::Needs { deck }, &open_job)
-            }
-            Err(_) => Err(AllocError),
-        },
+        Action::Needs { .. } => {
+            let open = OpenJob::of(alloc, job)?;
+            respond_to_judged_job(alloc, naming, action, &open.job())
+        }
         _ => respond_to_judged_job(alloc, naming, action, job),
     }
 }
@@ -153,12 +150,11 @@ fn respond_to_judged_job(
         Err(WalkError::Memory) => return Err(AllocError),
     };
     let outcome = Outcome::of_verdict(survey.verdict());
-    let advice = action_advice(alloc, naming, action, job, &survey);
-    let output = output_of(alloc, naming, action, job, survey)?;
+    let answer = answer_of(alloc, naming, action, job, survey)?;
     Ok(Response {
         outcome,
-        output,
-        advice,
+        output: answer.output,
+        advice: answer.advice,
         note: "",
     })
 }

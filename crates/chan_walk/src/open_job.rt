@@ -1,6 +1,6 @@
 //! The open job of a program, which grants all that can be granted.
 
-ghost use Rattle.std.specs.Prelude.{◌≡◌, ◌↔◌, IfOk, OnErr};
+ghost use Rattle.std.specs.Prelude.{◌≡◌, ◌↔◌, IfOk};
 ghost use Rattle.ccw_core.specs.Held.{bytes_held};
 ghost use Rattle.chan_walk.specs.Job.{storage_of};
 ghost use Rattle.chan_walk.specs.OpenJob.{open_job, HoldsOpenJob, IsOpenJob};
@@ -8,7 +8,6 @@ ghost use Rattle.chan_walk.specs.Verdict.{IsVerdict};
 ghost use Rattle.chan_walk.specs.declared.job.Job.{Job};
 ghost use Rattle.chan_walk.specs.declared.verdict.Verdict.{Verdict};
 
-use crate::error::WalkError;
 use crate::job::Job;
 use crate::laws::open_job_is_open;
 use crate::limit::Limit;
@@ -61,12 +60,10 @@ impl<'a> OpenJob<'a> {
     }
 
     /// The open job of a job's program, with the job's limit on places.
-    pub fn of(alloc: Global, job: &Job<'a>) -> Result<OpenJob<'a>, WalkError>
-        ensures open { IfOk result (HoldsOpenJob job.now) }
-        ensures memory { OnErr result (result ≡ Err WalkError.Memory) }
+    pub fn of(alloc: Global, job: &Job<'a>) -> Result<OpenJob<'a>, AllocError>
+        ensures { IfOk result (HoldsOpenJob job.now) }
     {
-        let open = OpenJob::over(alloc, job.storage, job.start, job.device, job.limit)?;
-        Ok(open)
+        OpenJob::over(alloc, job.storage, job.start, job.device, job.limit)
     }
 
     /// The job, as a view.

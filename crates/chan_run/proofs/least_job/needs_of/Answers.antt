@@ -9,10 +9,10 @@ use Rattle.chan_run.proofs.least_job.needs_of.Goals as goal
 pub returns-in-Err-TooManyPlaces-clause-err : goal.returns-in-Err-TooManyPlaces-clause-err
 returns-in-Err-TooManyPlaces-clause-err c = λ o image there.
     of_open_job o image (λ k. HasMoreThan k k.limit) c.args.job.now c.job-open_job.result there
-    (c.job-open_job.ensures.open c.args.job.now c.in-Ok.ensures.open) (search rules)
+    (c.job-open_job.ensures.open c.args.job.now c.in_ok-open.ensures) (search rules)
 
 pub returns-in-No-clause-err : goal.returns-in-No-clause-err
 returns-in-No-clause-err c = λ o image there.
-    let no : first_verdict c.in-Ok-survey.survey.offences ≡ No c.in-No.address c.in-No.reason = sym c.verdict.ensures ∙ c.in-No.is in
+    let no : first_verdict c.in-Ok.survey.offences ≡ No c.in-No.address c.in-No.reason = sym c.verdict.ensures ∙ c.in-No.is in
     of_open_job o image (λ k. IsAnswer k (No c.in-No.address c.in-No.reason)) c.args.job.now c.job-open_job.result there
-    (c.job-open_job.ensures.open c.args.job.now c.in-Ok.ensures.open) (rw no at c.in-Ok-survey.ensures.answer)
+    (c.job-open_job.ensures.open c.args.job.now c.in_ok-open.ensures) (rw no at c.in-Ok.ensures.answer)

@@ -13,6 +13,6 @@ returns c =
     let are = c.into_parts-looks.ensures.places j c.requires in
     let looks = c.into_parts-looks.ensures.looks j c.requires in
     rw (c.if-wide.false, ← c.verdict-verdict.ensures)
-    (IfOk-weaker c.listing_text.result _ _ (λ text is.
+    (IfOk-weaker c.plain_output.result _ _ (λ text is.
     (places_of_looks ls, are, is ∙ ap (λ t. heading_of c.args.naming ++ t) (listing_seen j v ls looks)))
-    (rw c.as_slice.ensures.value at c.listing_text.ensures))
+    (rw c.as_slice.ensures.value at c.plain_output.ensures))

@@ -8,7 +8,7 @@ pub returns-in_err-text_on-clause-refusal : goal.returns-in_err-text_on-clause-r
 returns-in_err-text_on-clause-refusal c =
     let asked = c.args.asked.now in
     let opened = c.job-2.result in
-    let is = c.job-2.ensures.open c.job.result c.in_ok-open.ensures.open in
+    let is = c.job-2.ensures.open c.job.result c.in_ok-open.ensures in
     let is_open : IsOpenJobFor asked opened = record { job = c.job.result; asked = c.job.ensures; is_open = is } in
     walk_refused (HasTooManyOpenly asked) asked c.in_err-text_on.field-0.0 c.from_residual-in_err-text_on.result c.in_ok-ready.ensures.right
     (λ many. record {
@@ -20,5 +20,5 @@ returns-in_err-text_on-clause-refusal c =
 
 pub returns-clause-answer : goal.returns-clause-answer
 returns-clause-answer c =
-    let is_open = c.job-2.ensures.open c.job.result c.in_ok-open.ensures.open in
+    let is_open = c.job-2.ensures.open c.job.result c.in_ok-open.ensures in
     (c.job-2.result, record { job = c.job.result; asked = c.job.ensures; is_open = is_open }, c.in_ok-text_on.ensures.text)

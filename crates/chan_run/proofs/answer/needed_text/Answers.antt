@@ -4,7 +4,7 @@ use Rattle.chan_walk.specs.declared.verdict.Verdict.TheVariants.{No, Yes}
 use Rattle.chan_walk.specs.Offence.{first_verdict}
 use Rattle.chan_needs.specs.Listed.{listed}
 use Rattle.chan_run.proofs.NeedLemmas.{needs_extents}
-use Rattle.chan_run.proofs.output.needed_text.Goals as goal
+use Rattle.chan_run.proofs.answer.needed_text.Goals as goal
 
 pub needs_text-requires : goal.needs_text-requires
 needs_text-requires c =
