@@ -224,3 +224,14 @@ pub of_open_job : (o : ImageOptions) (image : List ℕ) (Holds : Job → Type 0)
     → IsOpenJob j k → Holds k → HoldsOfOpenJob o image Holds
 of_open_job o image Holds j k there is holds =
     record { job = j; of_program = there; opened = k; is_open = is; holds = holds }
+
+-- what shows two things shows each
+pub first_holds : (o : ImageOptions) (image : List ℕ) (One Other : Job → Type 0)
+    → HoldsOfOpenJob o image (λ k. One k × Other k) → HoldsOfOpenJob o image One
+first_holds o image One Other h =
+    record { job = h.job; of_program = h.of_program; opened = h.opened; is_open = h.is_open; holds = h.holds.0 }
+
+pub second_holds : (o : ImageOptions) (image : List ℕ) (One Other : Job → Type 0)
+    → HoldsOfOpenJob o image (λ k. One k × Other k) → HoldsOfOpenJob o image Other
+second_holds o image One Other h =
+    record { job = h.job; of_program = h.of_program; opened = h.opened; is_open = h.is_open; holds = h.holds.1 }

@@ -2,7 +2,9 @@
 
 ghost use Rattle.std.specs.Prelude.{◌≡◌, ◌↔◌, ◌+◌, ◌≤◌, ◌^◌, IfOk, Some, false, length, true};
 ghost use Rattle.chan_run.specs.MadeDeck.{IsImageDelivered, IsImageInputResponse, IsImageResponse};
+ghost use Rattle.chan_run.specs.Image.{HoldsOfOpenJob};
 ghost use Rattle.chan_run.specs.MadeDeck.{IsNoJobAdvice};
+ghost use Rattle.chan_run.specs.NoJob.{IsExplainedOpenly};
 ghost use Rattle.chan_run.specs.Name.{name_in};
 ghost use Rattle.chan_run.specs.Outcome.{IsCarriedOut, IsImageEnd, IsWriteFailure};
 ghost use Rattle.chan_run.specs.Response.{IsInputDelivered};
@@ -17,6 +19,7 @@ use crate::failure::Failure;
 use crate::image::{deck_text, read_image};
 use crate::image_note::deck_note;
 use crate::image_options::ImageOptions;
+use crate::least_job::NoLeastJob;
 use crate::name::Naming;
 use crate::no_job::no_job_text;
 use crate::outcome::Outcome;
@@ -25,7 +28,6 @@ use crate::status::respond_to_input;
 use crate::texts::write_bytes;
 use ccw_core::Watched;
 use chan_args::Action;
-use chan_walk::WalkError;
 use std::alloc::{AllocError, Global};
 use std::io::{Read, Write};
 
@@ -166,13 +168,13 @@ fn why_no_job(
     name: Option<&str>,
     options: &ImageOptions,
     image: &[u8],
-    given: usize,
-) -> Result<Vec<u8>, WalkError>
-    requires { options.now.at + length image.now ≤ STORAGE_LIMIT }
+    explanation: &str,
+) -> Result<Vec<u8>, AllocError>
+    requires { HoldsOfOpenJob options.now image.now (λ k. IsExplainedOpenly k explanation.now) }
     ensures { IfOk result (λ why.
         IsNoJobAdvice (name_in name.entry) options.now image.now (Some why.items)) }
 {
-    let mut why = no_job_text(alloc, name, options, image, given)?.into_bytes();
+    let mut why = no_job_text(alloc, name, explanation)?.into_bytes();
     let notes = image_notes(alloc, options.at, image)?;
     why.extend_from_slice(notes.as_slice())?;
     Ok(why)
@@ -191,25 +193,30 @@ fn respond_to_image(
     ensures known { IsImageEnd result.outcome }
 {
     let note = deck_note(image);
-    match deck_text(alloc, options, image) {
+    match deck_text(alloc, options, image, given) {
         Ok(output) => Response {
             outcome: Outcome::Done,
             output,
             advice: image_notes(alloc, options.at, image).ok(),
             note,
         },
-        Err(Outcome::NoJob { address, reason }) => {
-            // The same job was walked before, so this fails only for want of memory.
-            match why_no_job(alloc, name, options, image, given) {
-                Ok(why) => Response {
-                    outcome: Outcome::NoJob { address, reason },
-                    output: Vec::new(alloc),
-                    advice: Some(why),
-                    note,
-                },
-                Err(_) => Response::bare(alloc, Outcome::Failed(Failure::OutOfMemory), note),
-            }
+        Err(
+            NoLeastJob::NoJob {
+                address,
+                reason,
+                why,
+            },
+        ) => match why_no_job(alloc, name, options, image, why.as_str()) {
+            Ok(why) => Response {
+                outcome: Outcome::NoJob { address, reason },
+                output: Vec::new(alloc),
+                advice: Some(why),
+                note,
+            },
+            Err(AllocError) => Response::bare(alloc, Outcome::Failed(Failure::OutOfMemory), note),
+        },
+        Err(NoLeastJob::Unknown(failure)) => {
+            Response::bare(alloc, Outcome::Failed(failure), note)
         }
-        Err(end) => Response::bare(alloc, end, note),
     }
 }

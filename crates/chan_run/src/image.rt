@@ -2,7 +2,8 @@
 
 ghost use Rattle.std.specs.Prelude.{◌≡◌, ◌↔◌, ◌+◌, ◌≤◌, ◌^◌, false, true, length, IfErr, ◌<◌};
 ghost use Rattle.std.specs.Prelude.{if◌then◌else◌, is_some, IfOk, IfSome, IsErrOf, None, unwrap_or};
-ghost use Rattle.chan_run.specs.Image.{IsDeckText, IsNoDeck, IsNoImage, IsImageRoom};
+ghost use Rattle.chan_run.specs.Image.{IsDeckText, IsNoImage, IsImageRoom};
+ghost use Rattle.chan_run.specs.NoJob.{IsNoDeckFor};
 ghost use Rattle.chan_run.specs.Image.{IsWholeImage, deck_of, filled};
 ghost use Rattle.chan_deck.specs.Image.{Spells};
 ghost use Rattle.chan_run.specs.declared.failure.Failure.TheVariants as failures;
@@ -12,9 +13,8 @@ use crate::deck_parts::deck_parts;
 use crate::failure::Failure;
 use crate::image_options::ImageOptions;
 use crate::input::read_input;
-use crate::least_job::least_text;
+use crate::least_job::{NoLeastJob, least_text};
 use crate::open_deck::open_text;
-use crate::outcome::Outcome;
 use ccw_core::{STORAGE_LIMIT, Watched};
 use chan_args::RequestedJob;
 use chan_deck::parts_text;
@@ -100,19 +100,21 @@ fn too_long(options: &ImageOptions) -> Failure
     }
 }
 
-/// The text of the deck that an image makes with the job that is asked for.
+/// The text of the deck that an image makes with the job that is asked for. The first `given` bytes
+/// of the image were read, and zeros follow them.
 pub(crate) fn deck_text(
     alloc: Global,
     options: &ImageOptions,
     image: &[u8],
-) -> Result<Vec<u8>, Outcome>
+    given: usize,
+) -> Result<Vec<u8>, NoLeastJob>
     requires { options.now.at + length image.now ≤ STORAGE_LIMIT }
     ensures text { IfOk result (λ text. IsDeckText options.now image.now text.items) }
-    ensures none { IfErr result (IsNoDeck options.now image.now) }
+    ensures none { IfErr result (IsNoDeckFor options.now image.now) }
 {
     match options.job {
         RequestedJob::Named => Ok(named_text(alloc, options, image)?),
-        RequestedJob::Least => least_text(alloc, options, image),
+        RequestedJob::Least => least_text(alloc, options, image, given),
         RequestedJob::Open => Ok(open_text(alloc, options, image)?),
     }
 }

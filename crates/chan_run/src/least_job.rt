@@ -9,7 +9,8 @@ ghost use Rattle.chan_walk.specs.OpenJob.{AreOfOneProgram};
 ghost use Rattle.chan_needs.specs.Listed.{AreNeeds, listed};
 ghost use Rattle.chan_walk.specs.declared.job.Job.{Job};
 ghost use Rattle.chan_args.specs.declared.image_words.RequestedJob.TheVariants as jobs;
-ghost use Rattle.chan_run.specs.Image.{HasNoNeeds, IsDeckText, IsNoDeck, IsProgramAt, IsProgramIn};
+ghost use Rattle.chan_run.specs.Image.{IsDeckText, IsProgramAt, IsProgramIn};
+ghost use Rattle.chan_run.specs.NoJob.{HasNoLeastJob};
 ghost use Rattle.chan_run.specs.Output.{IsLeastText, extents_for, granting_just, unusual_limit};
 ghost use Rattle.chan_deck.specs.Image.{Spells};
 ghost use Rattle.chan_deck.specs.Item.{IsAddress};
@@ -20,28 +21,56 @@ ghost use Rattle.ccw_core.specs.declared.ccw.TheConstants.{STORAGE_LIMIT};
 use crate::deck_parts::deck_parts;
 use crate::failure::Failure;
 use crate::image_options::ImageOptions;
-use crate::outcome::Outcome;
-use ccw_core::Storage;
+use crate::no_job::open_explanation;
+use ccw_core::{Area, Storage};
 use chan_deck::{Parts, in_six_digits, parts_text, place_image};
 use chan_needs::{Needs, needs_from, pairs_of};
-use chan_walk::{Job, Limit, OpenJob, Verdict, WalkError, survey};
+use chan_walk::{Job, Limit, OpenJob, Reason, Verdict, WalkError, survey};
 use ckd_core::{Extents, LAST_CYLINDER};
 use std::alloc::{AllocError, Global};
 
-/// The text of the deck that an image makes with the options and the least job of its program.
+/// Why there is no least job for a program.
+#[derive(Drop)]
+pub(crate) enum NoLeastJob {
+    /// No job will do: the verdict on the open job is a no.
+    NoJob {
+        address: u32,
+        reason: Reason,
+        /// The explanation of that verdict, and notes on how to cure it.
+        why: String,
+    },
+    /// Too many places are reachable, or memory ran out.
+    Unknown(Failure),
+}
+
+impl From<AllocError> for NoLeastJob {
+    ghost use Rattle.std.specs.Prelude.{◌≡◌};
+    ghost use Rattle.chan_run.specs.declared.failure.Failure.TheVariants.{OutOfMemory};
+    ghost use Rattle.chan_run.specs.declared.least_job.NoLeastJob.TheVariants.{Unknown};
+
+    ghost from_gives = { λ _ none. none ≡ Unknown OutOfMemory };
+
+    fn from(_error: AllocError) -> NoLeastJob {
+        NoLeastJob::Unknown(Failure::OutOfMemory)
+    }
+}
+
+/// The text of the deck that an image makes with the options and the least job of its program. The
+/// first `given` bytes of the image were read, and zeros follow them.
 pub(crate) fn least_text(
     alloc: Global,
     options: &ImageOptions,
     image: &[u8],
-) -> Result<Vec<u8>, Outcome>
+    given: usize,
+) -> Result<Vec<u8>, NoLeastJob>
     requires short { options.now.at + length image.now ≤ STORAGE_LIMIT }
     requires least { options.now.job ≡ jobs.Least }
     ensures text { IfOk result (λ text. IsDeckText options.now image.now text.items) }
-    ensures none { IfErr result (IsNoDeck options.now image.now) }
+    ensures none { IfErr result (HasNoLeastJob options.now image.now) }
 {
-    let needs = match needs_in(alloc, options, image) {
+    let needs = match needs_in(alloc, options, image, given) {
         Ok(needs) => needs,
-        Err(end) => return Err(end),
+        Err(none) => return Err(none),
     };
     Ok(granting_text(alloc, &needs, deck_parts(options, image))?)
 }
@@ -121,18 +150,27 @@ fn unusual_limit(limit: Limit) -> Option<Limit>
 }
 
 /// What the program needs that the options find in an image.
-fn needs_in(alloc: Global, options: &ImageOptions, image: &[u8]) -> Result<Needs, Outcome>
+fn needs_in(
+    alloc: Global,
+    options: &ImageOptions,
+    image: &[u8],
+    given: usize,
+) -> Result<Needs, NoLeastJob>
     requires { options.now.at + length image.now ≤ STORAGE_LIMIT }
     ensures ok { IfOk result (λ n. (j : Job) → IsProgramIn options.now image.now j
         → AreNeeds j (listed n)) }
     ensures some { OnOk result ((j : Job) × IsProgramIn options.now image.now j) }
-    ensures err { IfErr result (HasNoNeeds options.now image.now) }
+    ensures err { IfErr result (HasNoLeastJob options.now image.now) }
 {
     let bytes = place_image(alloc, options.at as usize, image)?;
     // it isn't too large, since the image ends in storage
     let storage = Storage::new(&bytes).unwrap();
     let job = job_at(options, storage, options.start);
-    needs_of(alloc, &job)
+    let read = Area {
+        start: options.at,
+        len: u32::try_from(given).unwrap_or(u32::MAX),
+    };
+    needs_of(alloc, &job, read)
 }
 
 /// The job of the program that begins at an address in storage, as the options have it.
@@ -152,22 +190,26 @@ pub(crate) fn job_at<'a>(options: &'a ImageOptions, storage: Storage<'a>, start:
     }
 }
 
-/// What the program of a job needs.
-fn needs_of(alloc: Global, job: &Job<'_>) -> Result<Needs, Outcome>
+/// What the program of a job needs; `read` is what was read of its image.
+fn needs_of(alloc: Global, job: &Job<'_>, read: Area) -> Result<Needs, NoLeastJob>
     ensures ok { IfOk result (λ n. (j : Job) → AreOfOneProgram j job.now
         → AreNeeds j (listed n)) }
     ensures err { IfErr result (λ e. (o : ImageOptions) (image : List ℕ)
-        → IsProgramIn o image job.now → HasNoNeeds o image e) }
+        → IsProgramIn o image job.now → HasNoLeastJob o image e) }
 {
     let open = OpenJob::of(alloc, job)?;
     let open_job = open.job();
     let survey = match survey(alloc, &open_job) {
         Ok(survey) => survey,
-        Err(WalkError::TooManyPlaces) => return Err(Outcome::Failed(Failure::TooManyPlaces)),
-        Err(WalkError::Memory) => return Err(Outcome::Failed(Failure::OutOfMemory)),
+        Err(WalkError::TooManyPlaces) => return Err(NoLeastJob::Unknown(Failure::TooManyPlaces)),
+        Err(WalkError::Memory) => return Err(NoLeastJob::Unknown(Failure::OutOfMemory)),
     };
     match survey.verdict() {
-        Verdict::No { address, reason } => Err(Outcome::NoJob { address, reason }),
+        Verdict::No { address, reason } => Err(NoLeastJob::NoJob {
+            address,
+            reason,
+            why: open_explanation(alloc, &open_job, &survey, read)?,
+        }),
         Verdict::Yes => Ok(needs_from(alloc, &open_job, &survey)?),
     }
 }

@@ -1,64 +1,36 @@
 //! What is said of an image if no job will do for its program.
 
-ghost use Rattle.std.specs.Prelude.{◌+◌, ◌≤◌, length, string_bytes, IfOk};
+ghost use Rattle.std.specs.Prelude.{◌≡◌, ◌++◌, string_bytes, IfOk};
 ghost use Rattle.chan_run.specs.Name.{name_in};
-ghost use Rattle.chan_run.specs.NoJob.{IsExplainedOpenly, IsNoJobText};
+ghost use Rattle.chan_run.specs.NoJob.{IsExplainedOpenly, no_job_line};
 ghost use Rattle.chan_walk.specs.JobSurvey.{IsSurvey};
-ghost use Rattle.chan_walk.specs.OpenJob.{IsOpenJob};
-ghost use Rattle.chan_walk.specs.declared.job.Job.{Job};
-ghost use Rattle.ccw_core.specs.declared.ccw.TheConstants.{STORAGE_LIMIT};
 
 use crate::explained::{explained_witness, why_text};
-use crate::image_options::ImageOptions;
-use crate::least_job::job_at;
 use crate::name::named;
-use ccw_core::{Area, STORAGE_LIMIT, Storage};
+use ccw_core::{Area, STORAGE_LIMIT};
 use chan_args::Explained;
-use chan_deck::{place_image, storage_note};
-use chan_walk::{Evidence, Job, OpenJob, Reason, Survey, Verdict, WalkError, survey};
+use chan_deck::storage_note;
+use chan_walk::{Evidence, Job, Reason, Survey, Verdict};
 use chan_why::Witness;
 use std::alloc::{AllocError, Global};
 
-/// What is said of an image, which may have a name, if no job will do for its program.
-///
-/// Its first `given` bytes were read, and zeros follow them.
+/// What is said of an image, which may have a name, if no job will do for its program; `why` is the
+/// explanation of the verdict on its open job, with notes.
 pub(crate) fn no_job_text(
     alloc: Global,
     name: Option<&str>,
-    options: &ImageOptions,
-    image: &[u8],
-    given: usize,
-) -> Result<String, WalkError>
-    requires { options.now.at + length image.now ≤ STORAGE_LIMIT }
-    ensures { IfOk result (λ text.
-        IsNoJobText (name_in name.entry) options.now image.now (string_bytes text)) }
+    why: &str,
+) -> Result<String, AllocError>
+    ensures { IfOk result (λ text. string_bytes text
+        ≡ no_job_line (name_in name.entry) ++ why.now) }
 {
-    let bytes = place_image(alloc, options.at as usize, image)?;
-    // it isn't too large, since the image ends in storage
-    let storage = Storage::new(&bytes).unwrap();
-    let job = job_at(options, storage, options.start);
-    let read = Area {
-        start: options.at,
-        len: u32::try_from(given).unwrap_or(u32::MAX),
-    };
-    let explanation = open_explanation(alloc, &job, read)?;
     let (name, mark) = named(name, true);
-    Ok(format!(in alloc; "chanv: {name}{mark}no job will do: {explanation}")?)
+    Ok(format!(in alloc; "chanv: {name}{mark}no job will do: {why}")?)
 }
 
-/// The explanation of the verdict on a job's open job, and how to cure it; `read` is what was read.
-fn open_explanation(alloc: Global, job: &Job, read: Area) -> Result<String, WalkError>
-    ensures { IfOk result (λ text. (k : Job) × IsOpenJob job.now k
-        × IsExplainedOpenly k (string_bytes text)) }
-{
-    let open = OpenJob::of(alloc, job)?;
-    let open_job = open.job();
-    let survey = survey(alloc, &open_job)?;
-    Ok(surveyed_explanation(alloc, &open_job, &survey, read)?)
-}
-
-/// The explanation of the verdict on an open job that was surveyed, and how to cure it.
-fn surveyed_explanation(
+/// The explanation of the verdict on an open job that was surveyed, and how to cure it; `read` is
+/// what was read of the image.
+pub(crate) fn open_explanation(
     alloc: Global,
     open_job: &Job,
     survey: &Survey,
