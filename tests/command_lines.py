@@ -22,7 +22,7 @@ from answers import texts_of_help, whole
 from building import HERE, version
 from rows import Row, bytes_of, check_rows, sections_of, usage_fault, words_of
 from running import Ran, text_of
-from words import sections_of as explained_in
+from words import meanings_in
 
 sys.path.insert(0, str(HERE / "model"))
 
@@ -70,7 +70,7 @@ def rows_of_words():
         yield Row(words_of(words), Ran(4, "", "chanv: " + said.replace("\\n", "\n") + "\n"))
     for words in ("--version", "-V", "--version --fast"):
         yield Row(words.split(), Ran(0, f"chanv {version()}\n"))
-    meanings = explained_in(text_of(HERE / "explain.txt"))
+    meanings = meanings_in(text_of(HERE / "explain.txt"))
     yield Row(["explain", "changes-ccw"], Ran(0, meanings["changes-ccw"]))
     yield from (Row(words, Ran(0, text)) for words, text in helps())
     for words, fault in sections["fault"]:

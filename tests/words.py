@@ -1,13 +1,14 @@
 """`chanv explain` writes what explain.txt says of each word.
 
-explain.txt has a section for each reason of the table in docs/VERDICT.md, for each cause of the
-table in docs/DECK.md, and for each failure of the table in docs/OUTPUT.md, in this order. Its last
-section has the words of the output with one line each. `chanv explain` writes these texts, in any
-case of the word's letters. The commands of docs/DEVICE.md are words too, each with its code. Each
-word that `verify`, `list`, `why`, `needs`, `graph` or `find` writes about an example is known, and
-so are flags as a row shows them. Without a word `chanv explain` lists all words. Any other word is
-refused, and the nearest is named. And `chanv why` gives the cause of each example deck's no in a
-form that the row of its reason in docs/OUTPUT.md shows; each reason has an example.
+explain.txt has a line for each word, in the order in which `chanv explain` alone lists the words.
+Indented lines under it explain the word at length; `chanv explain WORD` writes these, or else the
+line, in any case of the word's letters. The words explained at length are the reasons of the table
+in docs/VERDICT.md, the causes of the table in docs/DECK.md, and the failures of the table in
+docs/OUTPUT.md, in this order. The commands of docs/DEVICE.md are words too, each with its code.
+Each word that `verify`, `list`, `why`, `needs`, `graph` or `find` writes about an example is known,
+and so are codes, masks, and flags as a row shows them. Any other word is refused, and the nearest
+is named. And `chanv why` gives the cause of each example deck's no in a form that the row of its
+reason in docs/OUTPUT.md shows; each reason has an example.
 """
 
 import re
@@ -25,88 +26,8 @@ TABLES = [
     ("OUTPUT.md", "Lines in place of an answer", r"\| `([a-z-]+)` \| `[a-zA-Z :;.]+` \| \d \|"),
 ]
 
-# a word of one line with its meaning, and a row of the table of commands, whose second codes have
-# names with -mt
-OTHER = r"(?m)^    (.+?): (.*)$"
-COMMAND = r"(?m)^\| `([0-9A-F]{2})` \| (?:`([0-9A-F]{2})` )?\| `([a-z-]+)` \|"
-
-# what the commands do on the device, in the order of the list
-DOES = """
-transfer-in-channel: the channel's jump to the CCW's data address
-no-operation: moves no data
-seek: moves the arm to a cylinder and selects a head
-seek-cylinder: moves the arm to a cylinder and selects a head
-seek-head: selects a head
-recalibrate: moves the arm to cylinder 0 and selects head 0
-set-file-mask: sets the file mask, which inhibits writes and seeks
-sense: stores the sense bytes, which describe the last error
-search-home-address-equal: looks for a home address that equals the argument
-search-id-equal: looks for a record whose ID equals the argument
-search-id-high: looks for a record whose ID is above the argument
-search-id-equal-or-high: looks for a record whose ID is at least the argument
-search-key-equal: looks for a record whose key equals the argument
-search-key-high: looks for a record whose key is above the argument
-search-key-equal-or-high: looks for a record whose key is at least the argument
-read-home-address: stores the home address of the track
-read-count: stores the count of a record
-read-record-zero: stores count, key and data of record zero
-read-data: stores the data of a record
-read-key-data: stores key and data of a record
-read-count-key-data: stores count, key and data of a record
-write-home-address: writes the home address of the track
-write-record-zero: writes count, key and data of record zero
-write-count-key-data: lays out a new record with count, key and data
-write-special-count-key-data: lays out a record that continues on another track
-erase: erases the rest of the track
-write-data: writes the data of a record
-write-key-data: writes key and data of a record
-"""
-ON_MORE_TRACKS = "as without -mt, also on the cylinder's next tracks"
-
-# what the list says in a few words of each word that has a section
-IN_SHORT = """
-misaligned: a CCW at an address that isn't a multiple of 8
-outside-storage: a CCW that doesn't lie wholly in main storage
-transfer-not-allowed: a transfer in channel that comes first or after another
-invalid-code: a command code whose low four bits are zero
-bad-format: a flag that is on and must be off
-zero-count: a count of zero
-data-outside: a data range that leaves main storage
-not-in-table: a command code that chanv doesn't know
-inhibited: a command that the file mask inhibits
-store-not-lent: a store into bytes that aren't lent for storing
-fetch-not-lent: a fetch of bytes that aren't lent for fetching
-short-seek: a seek without six bytes for its argument
-seek-outside: a seek outside the extents, the heads or bin 0
-changes-ccw: a store over a reachable CCW
-changes-argument: a store over a seek's argument or a mask byte
-weakens-mask: a Set File Mask to a byte that permits more or isn't a mask
-ended: the deck ends before its line `end` is complete
-header: the first line isn't the header of a deck
-form: the line has none of the forms that may come here
-mask: the file mask; or a deck's byte that isn't a file mask
-extent-backwards: the extent's last cylinder is below its first
-extent-past-device: the extent goes on past cylinder 202
-size: storage can't have this size
-put-address: the put's address is out of order or out of storage
-put-zero: the put's bytes are all zero
-after: something follows the line `end`
-limit: how many places may be reachable; or a number that isn't a limit
-cannot-open: a FILE that can't be opened
-no-such-file: a FILE that doesn't exist
-permission-denied: a FILE that you may not read
-is-a-folder: a FILE that is a folder
-read-failed: an input that can't be read to its end
-deck-too-long: a text longer than a deck may be
-image-too-long: an image longer than storage may be
-image-past-storage: an image that ends past the size of storage
-too-many-places: more places reachable than the limit
-no-job-will-do: a program for which no job will do
-write-failed: an output that can't be written
-out-of-memory: an allocation that was refused
-not-a-ccw: a word that isn't a CCW's sixteen digits
-no-such-word: a word that chanv doesn't know
-"""
+# a word of explain.txt: its line, the word in it, and the indented lines
+WORD = r"(?m)^((\S.*?): .*\n)((?:    .*\n)*)"
 
 # how the line on a word without a meaning ends
 LISTS_ALL = "chanv explain lists all words"
@@ -172,10 +93,10 @@ def words_under(page, heading, row):
     return re.findall(f"(?m)^{row}", table[0] if table else "")
 
 
-def sections_of(explained):
-    """The text under each heading that is one word, without its indent."""
-    found = re.findall(r"(?m)^### `([a-z-]+)`\n\n((?:    .*\n)+)", explained)
-    return {word: re.sub(r"(?m)^    ", "", text) for word, text in found}
+def meanings_in(explained):
+    """What `chanv explain` writes about each word."""
+    found = re.findall(WORD, explained)
+    return {word: re.sub(r"(?m)^    ", "", more) or line for line, word, more in found}
 
 
 def causes_of(page):
@@ -202,22 +123,22 @@ def check_causes(checks, program, causes):
     checks.expect("the reasons that an example has", sorted(causes), sorted(shown))
 
 
-# the columns of the table of commands, and of the two tables of masks
+# the code at the end of a command's line, the columns of the table of commands, and of the two
+# tables of masks
+CODE = r" \(code ([0-9A-F]{2})\)$"
 CLASS = r"(?m)^\| `([0-9A-F]{2})` \| (?:`([0-9A-F]{2})` )?\| `([a-z-]+)` \| \w+ \| (\w+) \|"
 BITS = r"(?m)^\| `([0-9A-F]{2})` \| (none|\w+(?:, \w+)*) \|$"
 
-# words that are codes of no command of the table, and what is said of them
+# codes of no command of the table, and what is said of them after their group
 OTHER_CODES = {
-    "00": "00: group invalid, no command, because the low four bits are zero",
-    "F0": "F0: group invalid, no command, because the low four bits are zero",
-    "02": "02: group read, read-ipl: not in the table of commands that chanv knows",
-    "0F": "0F: group control, space-count: not in the table of commands that chanv knows",
-    "b4": "B4: group sense, reserve: not in the table of commands that chanv knows",
-    "0C": "0C: group read-backward, not in the table of commands that chanv knows",
-    "08": "08: group transfer, transfer-in-channel: the channel's jump to the CCW's data address; "
-    "no mask inhibits it",
-    "f8": "F8: group transfer, transfer-in-channel: the channel's jump to the CCW's data address; "
-    "no mask inhibits it",
+    "00": "invalid, no command, because the low four bits are zero",
+    "F0": "invalid, no command, because the low four bits are zero",
+    "02": "read, read-ipl: not in the table of commands that chanv knows",
+    "0F": "control, space-count: not in the table of commands that chanv knows",
+    "b4": "sense, reserve: not in the table of commands that chanv knows",
+    "0C": "read-backward, not in the table of commands that chanv knows",
+    "08": "transfer, {transfer}; no mask inhibits it",
+    "f8": "transfer, {transfer}; no mask inhibits it",
 }
 NO_MASKS = {"20": "20", "ff": "FF", "01": "01"}
 
@@ -235,12 +156,11 @@ def group_of(code):
     return last[code % 16] if code % 4 == 0 else ["", "write", "read", "control"][code % 4]
 
 
-def check_codes(checks, program):
+def check_codes(checks, program, meanings):
     """A command code is a word, as is `mask` with a byte."""
     page = text_of(ROOT / "docs/DEVICE.md")
     writes, seeks = inhibited_by(page)
-    does = dict(line.split(": ", 1) for line in DOES.split("\n")[1:-1])
-    classes = {}
+    classes, commands = {}, {}
     for code, mt, name, of_class in re.findall(CLASS, page):
         classes[int(code, 16)] = name, of_class
         bits = [
@@ -252,12 +172,19 @@ def check_codes(checks, program):
             if those:
                 front = ", ".join(those[:-1]) + " or " if those[1:] else ""
                 said = f"a mask inhibits it if its bits {which} are {front}{those[-1]}"
-        for word, whole, what in ((code, name, does[name]), (mt, f"{name}-mt", ON_MORE_TRACKS)):
-            if word:
-                line = f"{word}: group {group_of(int(word, 16))}, {whole}: {what}; {said}\n"
-                checks.expect(word, Ran(0, line), run(program, "explain", word.lower()))
-    for word, line in OTHER_CODES.items():
-        checks.expect(word, Ran(0, f"{line}\n"), run(program, "explain", word))
+        commands[code] = name, said
+        if mt:
+            commands[mt] = f"{name}-mt", said
+    listed = {code: word for word, said in meanings.items() for code in re.findall(CODE, said)}
+    checks.expect("the commands", {code: name for code, (name, _) in commands.items()}, listed)
+    for code, (name, said) in commands.items():
+        does = re.sub(CODE, "", meanings[name]).rstrip("\n")
+        line = f"{code}: group {group_of(int(code, 16))}, {does}; {said}\n"
+        checks.expect(code, Ran(0, line), run(program, "explain", code.lower()))
+    transfer = meanings["transfer-in-channel"].partition(" (codes")[0]
+    for code, said in OTHER_CODES.items():
+        line = f"{code.upper()}: group {said.format(transfer=transfer)}\n"
+        checks.expect(code, Ran(0, line), run(program, "explain", code))
     for write, of_writes in writes:
         for seek, of_seeks in seeks:
             those = of_writes | of_seeks
@@ -346,73 +273,43 @@ def check_printed(checks, program):
         checks.expect_that(f"{word}, from {where}", ran.status == 0 and ran.output, ran)
 
 
-# the flags by their letters
-FLAG_NAMES = {
-    "D": "chain data",
-    "C": "chain command",
-    "L": "suppress length indication",
-    "S": "skip",
-    "P": "program-controlled interruption",
-}
-
-
-def check_flags(checks, program):
+def check_flags(checks, program, meanings):
     """Flags as a row shows them are a word: each letter has its name."""
+    flags = {it: re.search(r"the flag (.*?) \(", meanings[it])[1] for it in "DCLSP"}
     for byte in range(256):
-        letters = "".join(it if byte & 0x80 >> at else "-" for at, it in enumerate(FLAG_NAMES))
+        letters = "".join(it if byte & 0x80 >> at else "-" for at, it in enumerate(flags))
         low, word = byte % 8, f"{letters}{byte % 8}"
-        parts = [f"{it} {name}" for it, name in FLAG_NAMES.items() if it in letters]
+        parts = [f"{it} {name}" for it, name in flags.items() if it in letters]
         parts += [f"{low} low bits, which must be zero"] if low else []
         line = f"{word}: {'; '.join(parts) or 'no flag is on'}\n"
         checks.expect(word, Ran(0, line), run(program, "explain", "--", word))
     line = "-CL--0: C chain command; L suppress length indication\n"
     checks.expect("-CL--0 alone", Ran(0, line), run(program, "explain", "-CL--0"))
-    unlike = [f"{'-' * at}X{'-' * (4 - at)}0" for at in range(len(FLAG_NAMES))]
+    unlike = [f"{'-' * at}X{'-' * (4 - at)}0" for at in range(len(flags))]
     for word in ("-CL--8", "-CL---", "CD---0", "-CL-0", "-cl--0", "-CL--00", "DCLSP", *unlike):
         ran = run(program, "explain", "--", word)
         checks.expect(f"{word}, which isn't flags", (4, ""), (ran.status, ran.output))
 
 
-def check_others(checks, program, explained):
-    """The words of the output, each with its line, and each command."""
-    rows = re.findall(OTHER, explained.partition("\n### Words with one line\n")[2])
-    does = [tuple(line.split(": ", 1)) for line in DOES.split("\n")[1:-1]]
-    table = re.findall(COMMAND, text_of(ROOT / "docs/DEVICE.md"))
-    codes = {name: code for code, _, name in table}
-    named = {"transfer-in-channel", *codes}
-    checks.expect("the commands", named, {name for name, _ in does})
-    more = {name: mt for _, mt, name in table if mt}
-    does[0] = (does[0][0], f"{does[0][1]} (codes 08, 18 to F8)")
-    rows += does[:1] + [(name, f"{what} (code {codes[name]})") for name, what in does[1:]]
-    rows += [(f"{it}-mt", f"{ON_MORE_TRACKS} (code {more[it]})") for it, _ in does if it in more]
-    for word, meaning in rows:
-        said = Ran(0, f"{word}: {meaning}\n")
-        checks.expect(word, said, run(program, "explain", word))
-        checks.expect(word.upper(), said, run(program, "explain", word.upper()))
-    return [f"{word}: {meaning}\n" for word, meaning in rows]
-
-
 def check(checks, built):
     program, explained = built.chanv(), text_of(EXPLAINED)
-    said, listed = sections_of(explained), []
+    meanings, listed = meanings_in(explained), []
     for table in TABLES:
         words = words_under(*table)
         checks.expect_that(f"the table of {table[0]} has words", words, words)
         listed += words
-    checks.expect("the words of the tables, and the sections", listed, list(said))
-    for word in listed:
-        meaning = Ran(0, said.get(word, ""))
-        checks.expect(word, meaning, run(program, "explain", word))
-        checks.expect(word.upper(), meaning, run(program, "explain", word.upper()))
-    short = IN_SHORT.removeprefix("\n")
-    checks.expect("the words in short", listed, re.findall(r"(?m)^([a-z-]+): ", short))
-    lines = "".join([short, *check_others(checks, program, explained)])
+    at_length = [word for _, word, more in re.findall(WORD, explained) if more]
+    checks.expect("the words of the tables, and those explained at length", listed, at_length)
+    for word, meaning in meanings.items():
+        checks.expect(word, Ran(0, meaning), run(program, "explain", word))
+        checks.expect(word.upper(), Ran(0, meaning), run(program, "explain", word.upper()))
+    lines = "".join(re.findall(r"(?m)^\S.*\n", explained))
     checks.expect("the list of words", Ran(0, lines), run(program, "explain"))
     for word, nearest in UNKNOWN.items():
         near = f"the nearest is {nearest}, and " if nearest else ""
         refused = Ran(4, "", f"chanv: no such word; {near}{LISTS_ALL}\n")
         checks.expect(f"'{word[:20]}'", refused, run(program, "explain", word))
     check_printed(checks, program)
-    check_flags(checks, program)
-    check_codes(checks, program)
+    check_flags(checks, program, meanings)
+    check_codes(checks, program, meanings)
     check_causes(checks, program, dict(causes_of(text_of(OUTPUT))))

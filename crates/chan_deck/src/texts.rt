@@ -8,6 +8,7 @@ use ccw_core::Area;
 use chan_walk::Verdict;
 use std::alloc::{AllocError, Global};
 use std::fmt;
+use std::fmt::Write as _;
 
 /// The hexadecimal digits.
 const DIGITS: [char; 16] = [
@@ -92,6 +93,26 @@ impl fmt::Display for Range {
         let last = Address(last);
         write!(f, "{first}-{last}")
     }
+}
+
+/// Adds an address to a text.
+pub(crate) fn push_address(out: &mut String, address: u32) -> Result<(), AllocError>
+    ensures { OnOk result (string_bytes out.new
+        ≡ string_bytes out.old ++ text.address_text address) }
+{
+    let address = Address(address);
+    write!(out, "{address}")
+}
+
+/// Adds the addresses of the first byte of an area and of its last, if that is another.
+pub(crate) fn push_range(out: &mut String, area: Area) -> Result<(), AllocError> {
+    let last = area.start.saturating_add(area.len.saturating_sub(1));
+    push_address(out, area.start)?;
+    if last == area.start {
+        return Ok(());
+    }
+    out.push('-')?;
+    push_address(out, last)
 }
 
 /// Adds a verdict to a text: `yes`, or `no`, the address and the reason's word.

@@ -7,7 +7,7 @@ ghost use Rattle.chan_deck.specs.Listing.{IsWideListing};
 use crate::graph::{name_at, verb_at};
 use crate::layout::{Scene, first_offence, first_twin, row_at};
 use crate::listing::way_word;
-use crate::texts::{Address, Digits, Range, push_verdict};
+use crate::texts::{Digits, push_address, push_range, push_verdict};
 use ccw_core::Ccw;
 use chan_walk::{Entry, Job, Look, Offence, Place, Setting, Verdict, data_of, setting_at};
 use ckd_core::Track;
@@ -15,6 +15,48 @@ use std::alloc::{AllocError, Global};
 use std::fmt::Write as _;
 
 const HEADER: &str = "   address   entered  flags   data            command              does\n";
+
+/// Fills a column that began at this length of the text with blanks, up to its width, and adds the
+/// blank after it.
+fn end_column(out: &mut String, begun: usize, width: usize) -> Result<(), AllocError> {
+    for _ in out.len()..begun.saturating_add(width) {
+        out.push(' ')?;
+    }
+    out.push(' ')
+}
+
+/// Adds the columns of the address, which is indented in a data chain, and of the way of entry.
+fn push_entry(out: &mut String, place: Place) -> Result<(), AllocError> {
+    let begun = out.len();
+    if place.entered != Entry::Fresh {
+        out.push_str("  ")?;
+    }
+    push_address(out, place.address)?;
+    end_column(out, begun, 9)?;
+    let begun = out.len();
+    out.push_str(way_word(place.entered))?;
+    end_column(out, begun, 8)
+}
+
+/// Adds the columns of the flags and of the data: its range, or where a transfer leads.
+fn push_columns(alloc: Global, out: &mut String, ccw: Option<Ccw>) -> Result<(), AllocError> {
+    let Some(ccw) = ccw else {
+        return out.push_str("-       -               ");
+    };
+    // The flags stand behind the code's two digits and the address's six.
+    let text = ccw.text(alloc)?;
+    let begun = out.len();
+    out.push_str(text.get(10..16).unwrap_or(""))?;
+    end_column(out, begun, 7)?;
+    let begun = out.len();
+    if ccw.is_transfer() {
+        out.push_str("-> ")?;
+        push_address(out, ccw.address())?;
+    } else {
+        push_range(out, data_of(&ccw))?;
+    }
+    end_column(out, begun, 15)
+}
 
 /// Adds what the CCW of a look does: what it sets, or what it does with its data.
 fn push_deed(out: &mut String, job: &Job, looks: &[Look], at: usize) -> Result<(), AllocError> {
@@ -44,9 +86,10 @@ fn reasons_of(alloc: Global, offences: &[Offence], place: Place) -> Result<Strin
     for at in first_offence(offences, place.address)..offences.len() {
         match offences.get(at) {
             Some(offence) if offence.place == place => {
-                let comma = if words.is_empty() { "" } else { ", " };
-                let word = offence.reason.word();
-                write!(words, "{comma}{word}")?;
+                if !words.is_empty() {
+                    words.push_str(", ")?;
+                }
+                words.push_str(offence.reason.word())?;
             }
             Some(offence) if offence.place.address == place.address => (),
             _ => return Ok(words),
@@ -55,24 +98,25 @@ fn reasons_of(alloc: Global, offences: &[Offence], place: Place) -> Result<Strin
     Ok(words)
 }
 
-/// Adds the columns of the flags and of the data: its range, or where a transfer leads.
-fn push_columns(alloc: Global, out: &mut String, ccw: Option<Ccw>) -> Result<(), AllocError> {
-    let Some(ccw) = ccw else {
-        return out.push_str("-       -               ");
-    };
-    let address = Address(ccw.address());
-    let range = Range(data_of(&ccw));
-    let data = if ccw.is_transfer() {
-        format!(in alloc; "-> {address}")?
-    } else {
-        format!(in alloc; "{range}")?
-    };
-    // The flags stand behind the code's two digits and the address's six.
-    let text = ccw.text(alloc)?;
-    match text.get(10..16) {
-        Some(flags) => write!(out, "{flags:<7} {data:<15} "),
-        None => Ok(()),
+/// Adds the columns of a command's name, and of what its CCW does with the reasons, if there is
+/// something to say.
+fn push_name_and_deed(
+    out: &mut String,
+    name: &str,
+    deed: &str,
+    reasons: &str,
+) -> Result<(), AllocError> {
+    let begun = out.len();
+    out.push_str(name)?;
+    if !deed.is_empty() || !reasons.is_empty() {
+        end_column(out, begun, 20)?;
     }
+    out.push_str(deed)?;
+    if !deed.is_empty() && !reasons.is_empty() {
+        out.push_str(": ")?;
+    }
+    out.push_str(reasons)?;
+    out.push('\n')
 }
 
 /// Adds a row for a look, marked with the reasons if its place offends.
@@ -87,32 +131,15 @@ fn push_row(
     let Some(look) = looks.get(at) else {
         return Ok(());
     };
-    let place = look.place();
-    let reasons = reasons_of(alloc, offences, place)?;
-    let mark = if reasons.is_empty() { "  " } else { "=>" };
-    let indent = if place.entered == Entry::Fresh {
-        ""
-    } else {
-        "  "
-    };
-    let address = Address(place.address);
-    let address = format!(in alloc; "{indent}{address}")?;
-    let way = way_word(place.entered);
-    write!(out, "{mark} {address:<9} {way:<8} ")?;
+    let reasons = reasons_of(alloc, offences, look.place())?;
+    out.push_str(if reasons.is_empty() { "   " } else { "=> " })?;
+    push_entry(out, look.place())?;
     push_columns(alloc, out, look.ccw())?;
+    let mut deed = String::new(alloc);
+    push_deed(&mut deed, job, looks, at)?;
     let (name, chain) = name_at(look);
     let name = if chain.is_empty() { name } else { "-" };
-    let mut does = String::new(alloc);
-    push_deed(&mut does, job, looks, at)?;
-    if !reasons.is_empty() {
-        let colon = if does.is_empty() { "" } else { ": " };
-        write!(does, "{colon}{reasons}")?;
-    }
-    if does.is_empty() {
-        write!(out, "{name}\n")
-    } else {
-        write!(out, "{name:<20} {does}\n")
-    }
+    push_name_and_deed(out, name, deed.as_str(), reasons.as_str())
 }
 
 /// The wide listing of a job that was judged: a header, a row for each CCW and way of entry in

@@ -1,56 +1,78 @@
 //! What is said of a word that is a command code, as `07`, a file mask, as `mask 98`, or flags, as
 //! `-CL--0`.
 
-ghost use Rattle.std.specs.Prelude.{◌≤◌, IsTrue, length};
-
-use crate::output_words::{OUTPUT_WORDS, definition_for};
+use crate::words::row_of;
 use ccw_core::Ccw;
-use ckd_core::{FileMask, MaskClass, further_name, lookup};
+use ckd_core::{Command, FileMask, further_name, lookup};
 use hex::{FromHex, encode_upper};
 use std::alloc::{AllocError, Global};
 use std::fmt::Write as _;
 
-/// The byte that two hexadecimal digits of either case spell.
-fn spelled_byte(digits: &[u8]) -> Option<[u8; 1]> {
-    <[u8; 1]>::from_hex(digits).ok()
-}
+/// Masks that inhibit only by the bits `18`, then masks that inhibit only by the bits `C0`: each with
+/// the bits, and their digits in the mask.
+const MASKS: [(u8, &'static str, &'static str); 8] = [
+    (0xC0, "18", "00"),
+    (0xC8, "18", "08"),
+    (0xD0, "18", "10"),
+    (0xD8, "18", "18"),
+    (0x00, "C0", "00"),
+    (0x40, "C0", "40"),
+    (0x80, "C0", "80"),
+    (0xC0, "C0", "C0"),
+];
 
-/// Whether a word names a file mask.
-fn names_mask(word: &[u8]) -> bool
-    ensures long { IsTrue result → 5 ≤ length word.now }
-{
-    word.starts_with(b"mask ")
-}
+/// The letter of each flag, and what is said of the flag.
+const FLAGS: [(u8, &'static str); 5] = [
+    (b'D', "D chain data"),
+    (b'C', "C chain command"),
+    (b'L', "L suppress length indication"),
+    (b'S', "S skip"),
+    (b'P', "P program-controlled interruption"),
+];
 
-/// The digits of a mask, or of a code.
-fn digits_of(word: &[u8]) -> &[u8] {
-    if names_mask(word) { &word[5..] } else { word }
-}
-
-/// How a mask inhibits the commands of a class.
-fn inhibition(class: MaskClass) -> &'static str {
-    match class {
-        MaskClass::Plain | MaskClass::SetMask => "no mask inhibits it",
-        MaskClass::Seek | MaskClass::Recalibrate => {
-            "a mask inhibits it if its bits 18 are 08, 10 or 18"
-        }
-        MaskClass::SeekCylinder => "a mask inhibits it if its bits 18 are 10 or 18",
-        MaskClass::SeekHead => "a mask inhibits it if its bits 18 are 18",
-        MaskClass::WriteHome => "a mask inhibits it if its bits C0 are 00, 40 or 80",
-        MaskClass::WriteFormat => "a mask inhibits it if its bits C0 are 40 or 80",
-        MaskClass::WriteUpdate => "a mask inhibits it if its bits C0 are 40",
+/// The line on a word, if it is a command code, a file mask or flags. Tests hold the wording.
+pub(crate) fn spelled_text(alloc: Global, word: &str) -> Result<Option<String>, AllocError> {
+    let Some(digits) = word.strip_prefix("mask ") else {
+        return match byte_of(word) {
+            Some(code) => Ok(Some(code_text(alloc, code)?)),
+            None => flags_text(alloc, word),
+        };
+    };
+    match byte_of(digits) {
+        Some(byte) => Ok(Some(mask_text(alloc, byte)?)),
+        None => Ok(None),
     }
 }
 
-/// What a command does.
+/// The byte that two hexadecimal digits of either case spell.
+fn byte_of(digits: &str) -> Option<u8> {
+    let bytes = <[u8; 1]>::from_hex(digits.as_bytes()).ok()?;
+    Some(bytes[0])
+}
+
+/// The line on a command code: its group, the name of the command, what it does, and the masks that
+/// inhibit it.
+fn code_text(alloc: Global, code: u8) -> Result<String, AllocError> {
+    let group = Ccw::from_bytes(&[code, 0, 0, 0, 0, 0, 0, 1]).group();
+    let mut out = encode_upper(alloc, [code])?;
+    write!(out, ": group {group}, ")?;
+    match lookup(code) {
+        Some(command) => {
+            out.push_str(action_of(command.name()))?;
+            push_inhibition(alloc, &mut out, command)?;
+        }
+        None => push_other(&mut out, code)?,
+    }
+    out.push('\n')?;
+    Ok(out)
+}
+
+/// The name of a command, and what the command does.
 fn action_of(name: &str) -> &'static str {
-    let definition = definition_for(&OUTPUT_WORDS, name).unwrap_or("");
-    match definition.split_once(" (code") {
-        Some((named, _)) => match named.split_once(": ") {
-            Some((_, action)) => action,
-            None => named,
-        },
-        None => definition,
+    let row = row_of(name).unwrap_or("");
+    match row.split_once(" (code") {
+        Some((action, _)) => action,
+        None => row,
     }
 }
 
@@ -59,132 +81,111 @@ fn push_other(out: &mut String, code: u8) -> Result<(), AllocError> {
     match code % 16 {
         0 => out.push_str("no command, because the low four bits are zero"),
         8 => {
-            let action = action_of("transfer-in-channel");
-            write!(out, "transfer-in-channel: {action}; no mask inhibits it")
+            out.push_str(action_of("transfer-in-channel"))?;
+            out.push_str("; no mask inhibits it")
         }
-        _ => match further_name(code) {
-            Some(name) => write!(out, "{name}: not in the table of commands that chanv knows"),
-            None => out.push_str("not in the table of commands that chanv knows"),
-        },
+        _ => {
+            if let Some(name) = further_name(code) {
+                out.push_str(name)?;
+                out.push_str(": ")?;
+            }
+            out.push_str("not in the table of commands that chanv knows")
+        }
     }
 }
 
-/// The line on a command code: its group, the name of the command, what it does, and the masks that
-/// inhibit it.
-fn code_text(alloc: Global, code: u8) -> Result<String, AllocError> {
-    let digits = encode_upper(alloc, [code])?;
-    let group = Ccw::from_bytes(&[code, 0, 0, 0, 0, 0, 0, 1]).group();
-    let mut out = format!(in alloc; "{digits}: group {group}, ")?;
-    match lookup(code) {
-        Some(command) => {
-            let (name, action) = (command.name(), action_of(command.name()));
-            let inhibition = inhibition(command.class());
-            write!(out, "{name}: {action}; {inhibition}")?;
+/// Adds which masks inhibit a command, by the bits that decide over it.
+fn push_inhibition(alloc: Global, out: &mut String, command: Command) -> Result<(), AllocError> {
+    let mut choices = Vec::new(alloc);
+    let mut deciding = "";
+    for (byte, bits, digits) in &MASKS {
+        let Some(mask) = FileMask::new(*byte) else {
+            continue;
+        };
+        if !mask.inhibits(command) {
+            continue;
         }
-        None => push_other(&mut out, code)?,
+        choices.push(*digits)?;
+        deciding = *bits;
+    }
+    if choices.is_empty() {
+        return out.push_str("; no mask inhibits it");
+    }
+    out.push_str("; a mask inhibits it if its bits ")?;
+    out.push_str(deciding)?;
+    out.push_str(" are ")?;
+    push_choices(out, choices.as_slice())
+}
+
+/// Adds digits, with *or* before the last.
+fn push_choices(out: &mut String, digits: &[&'static str]) -> Result<(), AllocError> {
+    for at in 0..digits.len() {
+        if at > 0 {
+            let is_last = at + 1 == digits.len();
+            out.push_str(if is_last { " or " } else { ", " })?;
+        }
+        out.push_str(digits[at])?;
+    }
+    Ok(())
+}
+
+/// The line on a mask: the commands that it inhibits, in the order of their codes.
+fn mask_text(alloc: Global, byte: u8) -> Result<String, AllocError> {
+    let mut out = String::from_str(alloc, "mask ")?;
+    out.push_str(encode_upper(alloc, [byte])?.as_str())?;
+    match FileMask::new(byte) {
+        Some(mask) => push_inhibited(&mut out, mask)?,
+        None => out.push_str(": isn't a file mask; only the bits C0 and 18 may be on")?,
     }
     out.push('\n')?;
     Ok(out)
 }
 
-/// Adds the names of the commands that a mask inhibits, in the order of their codes.
+/// Adds the names of the commands that a mask inhibits.
 fn push_inhibited(out: &mut String, mask: FileMask) -> Result<(), AllocError> {
-    let mut front = "inhibits ";
+    let mut front = ": inhibits ";
     for code in 0..=255u8 {
         if let Some(command) = lookup(code) {
             if mask.inhibits(command) {
-                let name = command.name();
-                write!(out, "{front}{name}")?;
+                out.push_str(front)?;
+                out.push_str(command.name())?;
                 front = ", ";
             }
         }
     }
     if front == ", " {
-        Ok(())
-    } else {
-        out.push_str("inhibits no command")
+        return Ok(());
     }
+    out.push_str(": inhibits no command")
 }
 
-/// The line on a mask: the commands that it inhibits.
-fn mask_text(alloc: Global, byte: u8) -> Result<String, AllocError> {
-    let digits = encode_upper(alloc, [byte])?;
-    let mut out = format!(in alloc; "mask {digits}: ")?;
-    match FileMask::new(byte) {
-        Some(mask) => push_inhibited(&mut out, mask)?,
-        None => out.push_str("isn't a file mask; only the bits C0 and 18 may be on")?,
+/// The line on the flags of a listing: the name of each flag that is on.
+fn flags_text(alloc: Global, word: &str) -> Result<Option<String>, AllocError> {
+    let bytes = word.as_bytes();
+    if bytes.len() != 6 || !(b'0'..=b'7').contains(&bytes[5]) {
+        return Ok(None);
     }
-    out.push('\n')?;
-    Ok(out)
-}
-
-/// Whether a byte is a flag that is off, or on by its letter.
-fn is_flag(letter: u8, byte: u8) -> bool {
-    byte == b'-' || byte == letter
-}
-
-/// Whether a word has the flags of a listing.
-fn is_flags(word: &[u8]) -> bool {
-    match word {
-        [d, c, l, s, p, low] => {
-            is_flag(b'D', *d)
-                && is_flag(b'C', *c)
-                && is_flag(b'L', *l)
-                && is_flag(b'S', *s)
-                && is_flag(b'P', *p)
-                && b'0' <= *low
-                && *low <= b'7'
-        }
-        _ => false,
-    }
-}
-
-/// What the flags are that a word has.
-fn flags_text(alloc: Global, word: &[u8]) -> Result<String, AllocError> {
-    let mut out = String::new(alloc);
-    for byte in word {
-        out.push(char::from(*byte))?;
-    }
+    let mut out = String::from_str(alloc, word)?;
     let mut mark = ": ";
-    for byte in word {
-        let letter = char::from(*byte);
-        let name = match letter {
-            'D' => "chain data",
-            'C' => "chain command",
-            'L' => "suppress length indication",
-            'S' => "skip",
-            'P' => "program-controlled interruption",
-            '1'..='7' => "low bits, which must be zero",
-            _ => continue,
-        };
-        write!(out, "{mark}{letter} {name}")?;
+    for at in 0..5 {
+        let (letter, name) = FLAGS[at];
+        if bytes[at] == b'-' {
+            continue;
+        }
+        if bytes[at] != letter {
+            return Ok(None);
+        }
+        out.push_str(mark)?;
+        out.push_str(name)?;
         mark = "; ";
     }
-    out.push_str(if mark == ": " {
-        ": no flag is on\n"
-    } else {
-        "\n"
-    })?;
-    Ok(out)
-}
-
-/// The byte of a word that is a command code or a file mask.
-fn byte_of(word: &[u8]) -> Option<u8> {
-    let bytes = spelled_byte(digits_of(word))?;
-    Some(bytes[0])
-}
-
-/// The line on a word, if it is a command code, a file mask or flags. Tests hold the wording.
-pub(crate) fn spelled_text(alloc: Global, word: &[u8]) -> Result<Option<String>, AllocError> {
-    let Some(byte) = byte_of(word) else {
-        return Ok(if is_flags(word) {
-            Some(flags_text(alloc, word)?)
-        } else {
-            None
-        });
-    };
-    if names_mask(word) {
-        return Ok(Some(mask_text(alloc, byte)?));
+    if bytes[5] != b'0' {
+        out.push_str(mark)?;
+        out.push(char::from(bytes[5]))?;
+        out.push_str(" low bits, which must be zero")?;
+    } else if mark == ": " {
+        out.push_str(": no flag is on")?;
     }
-    Ok(Some(code_text(alloc, byte)?))
+    out.push('\n')?;
+    Ok(Some(out))
 }

@@ -9,14 +9,16 @@ loop-place-preserved g c =
     record {
       all = append_assoc ps (c.in-Some.place ∷ []) c.next.new.self ∙ ap (λ z. ps ++ z) (sym c.in-Some.ensures.steps) ∙ c.loop-place.invariant.all;
       sound = not_failed _ _ _ c.in_ok-write_row.ensures.write.1;
-      rows = row_added (marked_row (storage_of c.args.job.now) c.args.verdict) ps c.in-Some.place _ _ _ c.loop-place.invariant.rows c.in_ok-write_row.ensures.ok;
+      rows = row_added (marked_row (storage_of c.args.job.now) c.args.verdict) ps c.in-Some.place _ _ _
+          c.loop-place.invariant.rows c.in_ok-write_row.ensures.ok;
     }
 
 pub returns-in_err-write_row-clause-prefix : goal.returns-in_err-write_row-clause-prefix
 returns-in_err-write_row-clause-prefix g c =
     let ps = c.loop-place.yielded in
     let all = ap (λ z. ps ++ z) (sym c.in-Some.ensures.steps) ∙ c.loop-place.invariant.all in
-    rw (← all) (row_begun (marked_row (storage_of c.args.job.now) c.args.verdict) ps c.in-Some.place c.next.new.self _ _ _ c.loop-place.invariant.rows c.write_row.ensures.prefix)
+    rw (← all) (row_begun (marked_row (storage_of c.args.job.now) c.args.verdict) ps c.in-Some.place c.next.new.self _ _ _
+    c.loop-place.invariant.rows c.write_row.ensures.prefix)
 
 pub returns-clause-ok : goal.returns-clause-ok
 returns-clause-ok g c =
