@@ -8,8 +8,8 @@ use hex::{FromHex, encode_upper};
 use std::alloc::{AllocError, Global};
 use std::fmt::Write as _;
 
-/// Masks that inhibit only by the bits `18`, then masks that inhibit only by the bits `C0`: each with
-/// the bits, and their digits in the mask.
+/// Masks that inhibit only by the bits `18`, then masks that inhibit only by the bits `C0`:
+/// each with the bits, and with their digits in the mask.
 const MASKS: [(u8, &'static str, &'static str); 8] = [
     (0xC0, "18", "00"),
     (0xC8, "18", "08"),
