@@ -53,6 +53,7 @@ const MORE: &str = "\n\nFor more information, try '--help'.\n";
 /// would have accepted the number that they are in decimal, how that one is written.
 pub fn report_option<W: Write>(fault: OptionFault<'_>, to: &mut Watched<W>) -> u8
     requires { to.old.failed ≡ false }
+    ensures { result ≡ 4 }
 {
     let usage = usage(fault.option);
     let (read, is_hexadecimal, number) = reading(fault.option, fault.text);
@@ -81,6 +82,7 @@ pub fn report_option<W: Write>(fault: OptionFault<'_>, to: &mut Watched<W>) -> u
 /// as `report_option` does.
 pub fn report_grants<W: Write>(fault: GrantFault, to: &mut Watched<W>) -> u8
     requires { to.old.failed ≡ false }
+    ensures { result ≡ 4 }
 {
     let _ = match fault {
         GrantFault::WithLeast(option) => write_grant_fault(WITH_LEAST, usage(option), to),
@@ -94,6 +96,7 @@ pub fn report_grants<W: Write>(fault: GrantFault, to: &mut Watched<W>) -> u8
 /// for, and gives the exit status, 4, as `report_option` does.
 pub fn report_all_with_of<W: Write>(to: &mut Watched<W>) -> u8
     requires { to.old.failed ≡ false }
+    ensures { result ≡ 4 }
 {
     let _ = write_grant_fault(WITH_ALL, usage(ImageOption::Of), to);
     4
@@ -114,6 +117,7 @@ fn write_grant_fault<W: Write>(
 /// gives the exit status, 4, as `report_option` does.
 pub fn report_file<W: Write>(name: &str, to: &mut Watched<W>) -> u8
     requires { to.old.failed ≡ false }
+    ensures { result ≡ 4 }
 {
     let _ = write_texts(
         &[
@@ -128,6 +132,7 @@ pub fn report_file<W: Write>(name: &str, to: &mut Watched<W>) -> u8
 /// as `report_option` does.
 pub fn report_no_ccw<W: Write>(to: &mut Watched<W>) -> u8
     requires { to.old.failed ≡ false }
+    ensures { result ≡ 4 }
 {
     let _ = write_texts(&[NO_CCW, MORE], to);
     4
@@ -139,6 +144,7 @@ pub fn report_no_ccw<W: Write>(to: &mut Watched<W>) -> u8
 /// word too many, the first line says so.
 pub fn report_usage<'a, W: Write>(words: &'a [String], text: &'a str, to: &mut Watched<W>) -> u8
     requires { to.old.failed ≡ false }
+    ensures { result ≡ 4 }
 {
     let _ = match rephrased(words, text) {
         Some(((said, word, more, again), rest)) => {
