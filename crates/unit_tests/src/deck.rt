@@ -1,6 +1,5 @@
 //! The tests of `chan_deck`.
 
-mod explanation;
 mod listing;
 mod reading;
 mod wide;
