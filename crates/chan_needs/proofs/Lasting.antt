@@ -1,6 +1,11 @@
 -- A write that lasts: while it is in the table, no program starts that keeps a byte of its area.
-use Rattle.chan_needs.proofs.Names.{[], All, All-cons, All-head, All-nil, All-tail, Area, both_ways, Flight, Has, inl, inr, IsCompatibleWith, IsSome, KeepsNone, List, None, Option, ProgramGoesOnAt, ProgramStartsAt, ProgramWaits, ProgramWaitsAt, refl, Remembered, Some, subst, Supervision, SupervisionGoesOn, sym, ℕ, ◌∙◌, ◌∷◌, ◌≡◌, ◌⊎◌}
-use Rattle.chan_needs.specs.Supervised.{IsLastingWrite, IsListedAt, IsSparedBy, LastingWrites}
+use Rattle.chan_needs.proofs.Names.{[], All, All-cons, All-head, All-nil, All-tail, Area, both_ways, Flight, Has, inl, inr, IsCompatibleWith, IsSome, KeepsNone, List, None, Option, ProgramGoesOnAt, ProgramStartsAt, ProgramWaits, ProgramWaitsAt, refl, Remembered, Some, subst, Supervision, SupervisionGoesOn, sym, true, false, rules, ℕ, ◌∙◌, ◌∷◌, ◌≡◌, ◌⊎◌}
+use Rattle.ccw_core.specs.Areas.{lies_in}
+use Rattle.chan_areas.proofs.Merging.{lies_in-first}
+use Rattle.ccw_core.proofs.Covering.{lies_in-nil}
+use Rattle.chan_needs.specs.Remembered.{IsKeeperOf}
+use Rattle.chan_needs.specs.Supervised.{IsLastingWrite, IsSparedBy, LastingWrites, ListsRemembered}
+use Rattle.chan_needs.proofs.Remembering.{at_number}
 
 none_kept : (f : Remembered) (area : Area) → IsLastingWrite area f → KeepsNone area f
 none_kept f area write b k = both_ways _ (write.keeps b) k.0
@@ -22,6 +27,19 @@ was_there : (a b : Option Flight) → ProgramWaits a b → IsSome b → IsSome a
 was_there None None r some = absurd cc
 was_there None (Some g) r some = absurd r
 was_there (Some f) b r some = refl
+
+-- each start is asked about with the write in the list
+abbrev IsListedAt : Remembered → Supervision → Supervision → Type 0
+IsListedAt f v w = (i : ℕ) (s : ProgramStartsAt v w i) → Has s.allowed.in_flight f
+
+stands : (f : Remembered) (area : Area) → f.needs.store.now ≡ area ∷ [] → f.needs.keep.now ≡ [] → IsLastingWrite area f
+stands f area store keep = record {
+  stores = λ b h. subst (λ (xs : List Area). lies_in xs b ≡ true) (sym store) (search (rules, lies_in-first, h));
+  keeps = λ b. subst (λ (xs : List Area). lies_in xs b ≡ false) (sym keep) (lies_in-nil b);
+}
+
+begins : (area : Area) (v : Supervision) (fs : List Remembered) → ListsRemembered v.programs fs → IsKeeperOf fs area None → IsSparedBy area v
+begins area v fs lists none i p some noted = let n = lists i p noted in at_number (KeepsNone area) fs n.0 p none n.1
 
 module _ (f : Remembered) (area : Area) (v w : Supervision) (write : IsLastingWrite area f) (spared : IsSparedBy area v) where
   rests : (i : ℕ) (p : Remembered) → ProgramWaitsAt v w i → IsSome (w.situation.at i) → w.programs i ≡ Some p → KeepsNone area p
@@ -46,6 +64,8 @@ module _ (f : Remembered) (area : Area) (v w : Supervision) (write : IsLastingWr
 
 pub lasting_writes : LastingWrites
 lasting_writes = record {
+  stands = stands;
+  begins = begins;
   stays = λ f area v w write spared goes listed. stays f area v w write spared goes listed;
   may_write = λ f area v fs t write spared lists only written.
       let none : (g : Remembered) → Has fs g → KeepsNone area g = λ g h. spares f area v g write spared (only g h) in

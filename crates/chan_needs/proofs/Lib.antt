@@ -22,3 +22,4 @@ pub mod Possible
 pub mod Naming
 pub mod Staying
 pub mod Lasting
+pub mod Answering

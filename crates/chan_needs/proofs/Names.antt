@@ -11,7 +11,7 @@ pub use Rattle.chan_areas.proofs.Searching.{merged_len}
 pub use Rattle.chan_areas.specs.Merged.{AreExactly, BeginAbove, EndsBelow, IsByteOf, IsLeastOf, IsLeastOrNone, IsMerged}
 pub use Rattle.chan_needs.specs.History.{AreFlightsWell, BeginsSinceAsked, Flight, IsHistory, IsNextSituation, MayStart, ProgramActs, ProgramWaits, Situation, Spares}
 pub use Rattle.chan_needs.specs.LeastBytes.{lesser_of}
-pub use Rattle.chan_needs.specs.Listed.{AreBounds, AreLooksOfYes, AreNeeds, AreProgramsCompatible, HasStoreAndKeep, IsShared, IsSought, Listed, listed_in, pair, run_of, SeeksCylinder}
+pub use Rattle.chan_needs.specs.Listed.{AreBounds, AreLooksOfYes, AreNeeds, AreProgramsCompatible, IsShared, IsSought, Listed, listed_in, pair, run_of, SeeksCylinder}
 pub use Rattle.chan_needs.specs.Needs.{begins, Grants, IsKept, IsNeededCylinder, IsNeededForStoring, IsStrictest, KeepsProgram, MaskServes, MaskServesAt}
 pub use Rattle.chan_needs.specs.Remembered.{AreInFlight, bytes_in, HoldsArea, HoldsAreas, HoldsByte, IsFirstChanged, IsFirstChangedIn, IsInFlight, IsInFlightAt, IsInside, KeepsNone, total_len}
 pub use Rattle.chan_needs.specs.SideBySide.{AreJobsCompatible}

@@ -1,9 +1,10 @@
 -- What was found under one job's yes is what each job of its program needs.
-use Rattle.chan_needs.proofs.Names.{ap, Area, AreExactly, AreLooksOfYes, AreNeeds, AreOfOneProgram, AreProgramsCompatible, arith, begins, begins_recalibrate, begins_seek, begins_set_mask, Bool, byte, ccw_of, ccw_over, clear_check, data_in_storage, data_under_yes, extents_of, false, fetch_of, fetches, fetches_parts, Fields, Grants, GrantsListed, has_cylinder, HasArgument, HasStoreAndKeep, home, inhibits, is_at_least, is_transfer, IsFetchedFrom, IsGuarded, IsKept, IsNeededCylinder, IsNeededForStoring, IsReachable, IsShared, IsSought, IsStoredInto, IsStrictest, IsVerdict, Job, length, lies_in, List, Listed, map, MaskServes, MaskServesAt, open_job, pair, Place, places_of_looks, refl, run_of, same_under_yes, SeeksTo, Seen, Some, storage_of, store_of, stores, stores_parts, subst, sym, to_open, true, Yes, yes_clear, ℕ, ◌<◌, ◌↔◌, ◌∙◌, ◌≡◌, ◌⊎◌}
+use Rattle.chan_needs.proofs.Names.{ap, Area, AreExactly, AreLooksOfYes, AreNeeds, AreOfOneProgram, AreProgramsCompatible, arith, begins, begins_recalibrate, begins_seek, begins_set_mask, Bool, byte, ccw_of, ccw_over, clear_check, data_in_storage, data_under_yes, extents_of, false, fetch_of, fetches, fetches_parts, Fields, Grants, GrantsListed, has_cylinder, HasArgument, home, inhibits, is_at_least, is_transfer, IsFetchedFrom, IsGuarded, IsKept, IsNeededCylinder, IsNeededForStoring, IsReachable, IsShared, IsSought, IsStoredInto, IsStrictest, IsVerdict, Job, length, lies_in, List, Listed, map, MaskServes, MaskServesAt, open_job, pair, Place, places_of_looks, refl, run_of, same_under_yes, SeeksTo, Seen, Some, storage_of, store_of, stores, stores_parts, subst, sym, to_open, true, Yes, yes_clear, ℕ, ◌<◌, ◌↔◌, ◌∙◌, ◌≡◌, ◌⊎◌}
 use Rattle.ccw_core.specs.Ccw.{ccw}
 use Rattle.chan_walk.specs.declared.verdict.Verdict.{Verdict}
 use Rattle.chan_walk.specs.Moved.{IsDataOf}
 use Rattle.chan_walk.specs.Offence.{FirstIsVerdict, first_verdict}
+use Rattle.chan_needs.specs.Listed.{AreNeedsCompatible}
 use Rattle.chan_needs.specs.Start.{ListedIsExact}
 use Rattle.chan_walk.specs.JobSurvey.{IsSurvey, Surveyed}
 use Rattle.chan_walk.proofs.Theory.Granting.{turned}
@@ -140,6 +141,15 @@ module _ (j : Job) (n : Listed) (h : AreNeeds j n) where
 
 -- ---- side by side
 
+-- what the program of j stores into, and what it keeps, is listed exactly: all that counts beside
+-- another program
+pub record HasStoreAndKeep (j : Job) (n : Listed) : Type 0 where
+  pub store : AreExactly (IsNeededForStoring j) n.store
+  pub keep : AreExactly (IsKept j) n.keep
+
+pub store_and_keep : (j : Job) (n : Listed) → AreNeeds j n → HasStoreAndKeep j n
+store_and_keep j n h = record { store = h.store; keep = h.keep }
+
 -- no byte that one program needs for storing is kept by the other, where their lists share none
 spares : (j k : Job) (n m : Listed) → HasStoreAndKeep j n → HasStoreAndKeep k m
     → ((b : ℕ) → IsShared n.store m.keep b → ⊥) → (b : ℕ) → IsNeededForStoring j b → IsKept k b → ⊥
@@ -154,11 +164,14 @@ pub are_compatible : (j k : Job) (n m : Listed) → HasStoreAndKeep j n → HasS
     → ((b : ℕ) → IsShared n.store m.keep b → ⊥) → ((b : ℕ) → IsShared m.store n.keep b → ⊥) → AreProgramsCompatible j k
 are_compatible j k n m f g one other = record { one_spares = spares j k n m f g one; other_spares = spares k j m n g f other }
 
+exactly : (j k : Job) (n m : Listed) → HasStoreAndKeep j n → HasStoreAndKeep k m → AreNeedsCompatible n m ↔ AreProgramsCompatible j k
+exactly j k n m f g = (
+  (λ are. are_compatible j k n m f g are.one_spares are.other_spares),
+  λ may. record { one_spares = shared j k n m f g may.one_spares; other_spares = shared k j m n g f may.other_spares },
+)
+
 pub listed_is_exact : ListedIsExact
 listed_is_exact = record {
   grants = λ j k n h e. granted j n h k e;
-  compatible = λ j k n m f g. (
-    (λ are. are_compatible j k n m f g are.one_spares are.other_spares),
-    λ may. record { one_spares = shared j k n m f g may.one_spares; other_spares = shared k j m n g f may.other_spares },
-  );
+  compatible = λ j k n m f g. exactly j k n m (store_and_keep j n f) (store_and_keep k m g);
 }

@@ -1,5 +1,6 @@
 -- What the laws on histories and on supervision begin with can be had.
 use Rattle.chan_needs.proofs.Names.{[], arith, Has, inl, inr, IsInFlightAt, List, None, refl, Remembered, Situation, suc, ℕ, ◌∷◌}
+use Rattle.chan_needs.proofs.Supervising.{flying}
 use Rattle.chan_needs.specs.Asked.{HistoryBegins}
 use Rattle.chan_needs.specs.SideBySide.{MayRunTogether}
 use Rattle.chan_needs.specs.Supervised.{CanBeSupervised}
@@ -28,6 +29,7 @@ can_be_supervised = record {
   begins = λ s. (record { situation = over s; programs = λ i. None }, refl, λ i. refl);
   remembered = λ j p needs start device kept. record { needs = needs; start = start; device = device; kept = kept };
   lists = λ programs fs listed i p e. numbered fs p (listed i p e);
+  flying = flying;
   allowed = λ v i j p f fs remembered proper start storage lists answer free. (
     record {
       asked = j;

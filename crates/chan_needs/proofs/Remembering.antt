@@ -1,5 +1,5 @@
 -- What is remembered of a program stays true while what is kept does, and is enough for a start.
-use Rattle.chan_needs.proofs.Names.{[], All, ap, Area, AreInFlight, AreOfOneProgram, AreProgramsCompatible, arith, both_ways, byte, data_under_yes, drop, Flight, Grants, HasStoreAndKeep, HoldsAreas, inl, inr, IsByteOf, IsCompatibleWith, IsFit, IsGuarded, IsInFlight, IsInFlightAt, IsKept, IsNeededForStoring, IsProper, IsReachable, IsSameIn, IsVerdict, Job, KeepsNone, KeepsProgram, length, lies_in, lies_in-cases, lies_in-nil, List, Listed, listed_in, open_job, Place, refl, Remembered, rules, same_data, same_under_yes, Situation, Some, storage_of, stores, subst, sym, to_open, true, with_storage, Yes, yes_by_guarded, yes_clear, ℕ, ◌+◌, ◌-◌, ◌<◌, ◌↔◌, ◌∙◌, ◌∷◌, ◌≡◌, ◌⊎◌}
+use Rattle.chan_needs.proofs.Names.{[], All, ap, Area, AreInFlight, AreOfOneProgram, AreProgramsCompatible, arith, both_ways, byte, data_under_yes, drop, Flight, Grants, HoldsAreas, inl, inr, IsByteOf, IsCompatibleWith, IsFit, IsGuarded, IsInFlight, IsInFlightAt, IsKept, IsNeededForStoring, IsProper, IsReachable, IsSameIn, IsVerdict, Job, KeepsNone, KeepsProgram, length, lies_in, lies_in-cases, lies_in-nil, List, Listed, listed_in, open_job, Place, refl, Remembered, rules, same_data, same_under_yes, Situation, Some, storage_of, stores, subst, sym, to_open, true, with_storage, Yes, yes_by_guarded, yes_clear, ℕ, ◌+◌, ◌-◌, ◌<◌, ◌↔◌, ◌∙◌, ◌∷◌, ◌≡◌, ◌⊎◌}
 use Rattle.ckd_core.specs.declared.device.Device.{Device}
 use Rattle.ckd_core.specs.declared.device.Device.TheVariants.{D2311, D2314}
 use Rattle.chan_walk.specs.VerdictBytes.{IsVerdictByte}
@@ -7,7 +7,7 @@ use Rattle.chan_needs.specs.Remembered.{IsRemembered, IsWritten, WritesWell, dev
 use Rattle.chan_needs.specs.Start.{RememberedIsFit, StartsWell}
 use Rattle.chan_needs.specs.Asked.{FitIsAsked, IsFlightOf}
 use Rattle.chan_walk.proofs.Algorithms.VerdictBytes.{carries_at}
-use Rattle.chan_needs.proofs.Needed.{grants_from, are_compatible, listed_is_exact}
+use Rattle.chan_needs.proofs.Needed.{are_compatible, grants_from, HasStoreAndKeep, listed_is_exact, store_and_keep}
 use Rattle.chan_walk.proofs.Machine.Again.{verdict_byte_is_guarded}
 use Rattle.chan_needs.proofs.Asking.{asked_once}
 use Rattle.chan_needs.proofs.Beginning.{asked_may_start, others_may_change}
@@ -72,14 +72,14 @@ module _ (j k : Job) (keeps : KeepsProgram j k) (v : IsVerdict (open_job j) Yes)
 
 module _ (p : Remembered) (k : Job) (h : IsInFlight p k) where
   pub needs_in_flight : HasStoreAndKeep k (listed_in p.needs)
-  needs_in_flight = lists_stay h.asked k h.program h.needs.verdict (listed_in p.needs) (record { store = h.needs.store; keep = h.needs.keep })
+  needs_in_flight = lists_stay h.asked k h.program h.needs.verdict (listed_in p.needs) (store_and_keep h.asked (listed_in p.needs) h.needs)
 
   -- what it guards is listed
   pub guarded_listed : (b : ℕ) → IsGuarded k b → lies_in p.needs.keep.now b ≡ true
   guarded_listed b g = (needs_in_flight.keep.bytes b).1 (((yes_is_open k h.proper h.verdict).1 b).0 g)
 
 -- what holds of all holds of number n
-at_number : (P : Remembered → Type 0) (fs : List Remembered) (n : ℕ) (f : Remembered) → All P fs → IsInFlightAt fs n f → P f
+pub at_number : (P : Remembered → Type 0) (fs : List Remembered) (n : ℕ) (f : Remembered) → All P fs → IsInFlightAt fs n f → P f
 at_number P fs n f all number = subst P (number.1 f) (all n f number.0)
 
 -- ---- who may write

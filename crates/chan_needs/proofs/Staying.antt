@@ -13,6 +13,7 @@ use Rattle.chan_needs.specs.Remembered.{HoldsKept}
 use Rattle.chan_needs.specs.Start.{HasChanged, IsLent, IsNotGranted, IsOfAnother, IsOfProgram, IsStartRefusal, LacksByte}
 use Rattle.chan_needs.specs.Staying.{AnswerStays, HeldStaysTrue, NeedsStay}
 use Rattle.chan_needs.proofs.Masking.{strictest_same}
+use Rattle.chan_needs.proofs.Needed.{store_and_keep}
 use Rattle.chan_needs.proofs.Remembering.{carry, counted, open_there, lists_stay, same_device, same_held, there, yes_open, yes_there}
 
 module _ (j k : Job) (keeps : KeepsProgram j k) (v : IsVerdict (open_job j) Yes) where
@@ -96,7 +97,7 @@ module _ (j k : Job) (keeps : KeepsProgram j k) (v : IsVerdict (open_job j) Yes)
 pub needs_stay : NeedsStay
 needs_stay j k n keeps h =
     let v = h.verdict in
-    let lists = lists_stay j k keeps v n (record { store = h.store; keep = h.keep }) in
+    let lists = lists_stay j k keeps v n (store_and_keep j n h) in
     record {
       verdict = yes_open j k keeps v;
       storage_len = h.storage_len ∙ sym keeps.storage.same_length;

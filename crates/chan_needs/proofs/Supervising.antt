@@ -103,6 +103,10 @@ supervised : (v : Supervision) (before : List Supervision) → IsSupervised (v �
 supervised v [] none = (none, λ i g e. let s : None ≡ Some g = sym (none i) ∙ e in absurd cc)
 supervised w (v ∷ before) (run, goes) = let t = supervised v before run in ((t.0, comes_next v w t.1 goes), stays_true v w t.1 goes)
 
+pub flying : (v : Supervision) (before : List Supervision) (fs : List Remembered) → IsSupervised (v ∷ before)
+    → ListsRemembered v.programs fs → AreInFlight v.situation fs
+flying v before fs h lists = listed_in_flight v fs (supervised v before h).1 lists
+
 pub supervised_stays_well : SupervisedStaysWell
 supervised_stays_well [] h = absurd h
 supervised_stays_well (v ∷ before) h = stays_well (v.situation ∷ situations before) (supervised v before h).0

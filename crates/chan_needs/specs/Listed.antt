@@ -91,12 +91,6 @@ pub record AreNeeds (j : Job) (n : Listed) : Type 0 where
 
 -- ---- side by side
 
--- what the program of j stores into, and what it keeps, is listed exactly: all that counts beside
--- another program
-pub record HasStoreAndKeep (j : Job) (n : Listed) : Type 0 where
-  pub store : AreExactly (IsNeededForStoring j) n.store
-  pub keep : AreExactly (IsKept j) n.keep
-
 -- neither program stores, where it needs to, over what the other keeps
 pub record AreProgramsCompatible (j k : Job) : Type 0 where
   pub one_spares : (b : ℕ) → IsNeededForStoring j b → IsKept k b → ⊥

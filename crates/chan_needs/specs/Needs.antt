@@ -17,7 +17,7 @@ use Rattle.chan_walk.specs.Headline.{IsSafe, IsSteady}
 use Rattle.chan_walk.specs.Job.{storage_of, extents_of, fetch_of, store_of}
 use Rattle.chan_walk.specs.Moved.{IsFetchedFrom, IsStoredInto}
 use Rattle.chan_walk.specs.Place.{is_fresh, ccw_of}
-use Rattle.chan_walk.specs.OpenJob.{AreOfOneProgram, open_job}
+use Rattle.chan_walk.specs.OpenJob.{AreOfOneProgram, GrantsMore, open_job}
 use Rattle.chan_walk.specs.Reachable.{IsReachable}
 use Rattle.chan_walk.specs.Runs.{IsSameIn}
 use Rattle.chan_walk.specs.Verdict.{IsVerdict}
@@ -86,6 +86,11 @@ pub record Grants (j k : Job) : Type 0 where
   pub store : (b : ℕ) → IsNeededForStoring j b → lies_in (store_of k) b ≡ true
 
 -- ---- the laws
+
+-- the open job grants all that any job of its program grants
+abbrev pub OpenJobGrantsMore : Type 0
+OpenJobGrantsMore =
+    (j k : Job) → AreOfOneProgram j k → IsProper k → GrantsMore k (open_job j)
 
 -- the least job: for each job of a program the verdict is yes exactly where it is for the open job
 -- and what is needed is granted

@@ -128,12 +128,12 @@ WritesWell fs area =
 
 -- ---- what the answers name
 
--- the keeper that is named is the first, with its least byte, and so is the byte that has changed:
--- there is no other
+-- the keeper that is named is the first, with its least byte, none is named exactly if there is
+-- none, and the byte that has changed is the first: there is no other answer
 pub record NamedIsFirst : Type 0 where
   pub keeper :
-      (fs : List Remembered) (a : Area) (i j b c : ℕ) → IsKeeperOf fs a (Some (i, b))
-      → IsKeeperOf fs a (Some (j, c)) → (i ≡ j) × (b ≡ c)
+      (fs : List Remembered) (a : Area) (one other : Option (ℕ × ℕ)) → IsKeeperOf fs a one
+      → IsKeeperOf fs a other → one ≡ other
   pub changed :
       (s : List ℕ) (areas : List Area) (kept : List ℕ) (b c : ℕ) → IsFirstChanged s areas kept b
       → IsFirstChanged s areas kept c → b ≡ c

@@ -15,7 +15,7 @@ use Rattle.chan_areas.specs.Merged.{IsLeastOf}
 use Rattle.chan_needs.specs.History.{MayStart, Situation}
 use Rattle.chan_walk.specs.Job.{storage_of, extents_of, fetch_of, store_of}
 use Rattle.chan_needs.specs.Needs.{Grants, KeepsProgram}
-use Rattle.chan_needs.specs.Listed.{AreNeeds, HasStoreAndKeep, Listed, AreProgramsCompatible}
+use Rattle.chan_needs.specs.Listed.{AreNeeds, Listed, AreProgramsCompatible}
 use Rattle.chan_needs.specs.Listed.{listed_in, AreNeedsCompatible, IsConflict}
 use Rattle.chan_walk.specs.Runs.{IsStart, Moment}
 use Rattle.chan_needs.specs.Remembered.{IsFirstChanged, HoldsKept, IsInFlightAt, IsRemembered}
@@ -53,7 +53,7 @@ pub record ListedIsExact : Type 0 where
       (j k : Job) (n : Listed) → AreNeeds j n → length (storage_of k) ≡ n.storage_len
       → GrantsListed k n ↔ Grants j k
   pub compatible :
-      (j k : Job) (n m : Listed) → HasStoreAndKeep j n → HasStoreAndKeep k m
+      (j k : Job) (n m : Listed) → AreNeeds j n → AreNeeds k m
       → AreNeedsCompatible n m ↔ AreProgramsCompatible j k
 
 -- all four
@@ -130,6 +130,12 @@ IsStartRefusal j p fs r =
 abbrev pub IsAnswerOf : Job → Remembered → List Remembered → Start → Type 0
 IsAnswerOf j p fs answer.Yes = IsFit j p fs
 IsAnswerOf j p fs (answer.No r) = IsStartRefusal j p fs r
+
+-- there is no other answer
+abbrev pub OneAnswer : Type 0
+OneAnswer =
+    (j : Job) (p : Remembered) (fs : List Remembered) (one other : Start)
+    → IsAnswerOf j p fs one → IsAnswerOf j p fs other → one ≡ other
 
 -- ---- if what is remembered is true
 

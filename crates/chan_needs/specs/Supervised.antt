@@ -13,7 +13,8 @@ use Rattle.chan_areas.specs.Merged.{IsByteOf}
 use Rattle.chan_walk.specs.Alarm.{IsProper}
 use Rattle.chan_walk.specs.Argument.{Has}
 use Rattle.chan_needs.specs.History.{ProgramActs, AreFlightsWell, Flight, ProgramWaits, Situation}
-use Rattle.chan_needs.specs.Remembered.{HoldsKept, IsKeeperOf, IsInFlightAt, KeepsNone}
+use Rattle.chan_needs.specs.Remembered.{AreInFlight, HoldsKept, IsKeeperOf, IsInFlightAt}
+use Rattle.chan_needs.specs.Remembered.{KeepsNone}
 use Rattle.chan_needs.specs.Remembered.{IsRemembered, IsWritten, device_number}
 use Rattle.chan_needs.specs.Listed.{AreNeeds, listed_in}
 use Rattle.chan_needs.specs.Start.{IsAnswerOf}
@@ -114,8 +115,9 @@ pub record SupervisedGoesOn : Type 0 where
       → MayWrite v t
       → (w : Supervision) × (w.situation.storage ≡ t) × IsSupervised (w ∷ v ∷ before)
 
--- none of these laws is about nothing: supervision begins over any storage, and what is remembered,
--- listed, allowed and written follows from its parts
+-- none of these laws is about nothing: supervision begins over any storage; what is remembered,
+-- listed, allowed and written follows from its parts; and who lists all that is remembered lists
+-- each program in flight
 pub record CanBeSupervised : Type 0 where
   pub begins :
       (s : List ℕ) → (v : Supervision) × (v.situation.storage ≡ s) × IsSupervised (v ∷ [])
@@ -125,6 +127,9 @@ pub record CanBeSupervised : Type 0 where
   pub lists :
       (programs : ℕ → Option Remembered) (fs : List Remembered)
       → ((i : ℕ) (p : Remembered) → programs i ≡ Some p → Has fs p) → ListsRemembered programs fs
+  pub flying :
+      (v : Supervision) (before : List Supervision) (fs : List Remembered)
+      → IsSupervised (v ∷ before) → ListsRemembered v.programs fs → AreInFlight v.situation fs
   pub allowed :
       (v : Supervision) (i : ℕ) (j : Job) (p : Remembered) (f : Flight) (fs : List Remembered)
       → IsRemembered j p → IsProper f.job → IsStart f.job f.moment
@@ -152,16 +157,21 @@ IsSparedBy area v =
     (i : ℕ) (p : Remembered) → IsSome (v.situation.at i) → v.programs i ≡ Some p
     → KeepsNone area p
 
--- each start was asked about with the write in the list
-abbrev pub IsListedAt : Remembered → Supervision → Supervision → Type 0
-IsListedAt f v w = (i : ℕ) (s : ProgramStartsAt v w i) → Has s.allowed.in_flight f
-
--- while the write is in the table, no program that keeps a byte of the area starts; so at each
--- moment others may write into the area, by a table of the programs in flight and the write
+-- a row that stores over the area alone, and keeps nothing, stands for such a write, and it may
+-- begin when `may_write` names no program; while it is in the table, and so in the list with which
+-- each start is asked about, no program that keeps a byte of the area starts; so at each moment
+-- others may write into the area, by a table of the programs in flight and the write
 pub record LastingWrites : Type 0 where
+  pub stands :
+      (f : Remembered) (area : Area) → f.needs.store.now ≡ area ∷ [] → f.needs.keep.now ≡ []
+      → IsLastingWrite area f
+  pub begins :
+      (area : Area) (v : Supervision) (fs : List Remembered) → ListsRemembered v.programs fs
+      → IsKeeperOf fs area None → IsSparedBy area v
   pub stays :
       (f : Remembered) (area : Area) (v w : Supervision) → IsLastingWrite area f
-      → IsSparedBy area v → SupervisionGoesOn v w → IsListedAt f v w → IsSparedBy area w
+      → IsSparedBy area v → SupervisionGoesOn v w
+      → ((i : ℕ) (s : ProgramStartsAt v w i) → Has s.allowed.in_flight f) → IsSparedBy area w
   pub may_write :
       (f : Remembered) (area : Area) (v : Supervision) (fs : List Remembered) (t : List ℕ)
       → IsLastingWrite area f → IsSparedBy area v → ListsRemembered v.programs fs

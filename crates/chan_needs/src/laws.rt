@@ -4,8 +4,9 @@
 ghost use Rattle.chan_needs.specs.SideBySide.{MayRunTogether, SafeSideBySide};
 ghost use Rattle.chan_needs.specs.History.{GoesOnToStorage, StaysWell};
 ghost use Rattle.chan_needs.specs.Needs.{AskedOnce, LeastJob, NeededMaskIsEnough, NeededMaskExists};
-ghost use Rattle.chan_needs.specs.Needs.{NeededMaskIsOne, NoJobWillDo, SafeIsGranted};
-ghost use Rattle.chan_needs.specs.Start.{RememberedIsFit, ListedIsExact};
+ghost use Rattle.chan_needs.specs.Needs.{NeededMaskIsOne, NoJobWillDo, OpenJobGrantsMore};
+ghost use Rattle.chan_needs.specs.Needs.{SafeIsGranted};
+ghost use Rattle.chan_needs.specs.Start.{ListedIsExact, OneAnswer, RememberedIsFit};
 ghost use Rattle.chan_needs.specs.Listed.{CompatibleByJobs};
 ghost use Rattle.chan_needs.specs.Asked.{AskedMayStart, EachMayLeave, EachMayStart, EachMayStep};
 ghost use Rattle.chan_needs.specs.Asked.{FitIsAsked, HistoryBegins, OthersMayChange};
@@ -34,6 +35,11 @@ pub(crate) fn safe_side_by_side()
 #[tactic(auto, using(crate::proofs::Possible::may_run_together))]
 pub(crate) fn may_run_together()
     ensures { MayRunTogether }
+{}
+
+/// The open job grants all that any job of its program grants.
+pub(crate) fn open_job_grants_more()
+    ensures { OpenJobGrantsMore }
 {}
 
 /// The least job: the verdict on a job of a program is yes exactly if the open job has a yes and
@@ -121,9 +127,15 @@ pub(crate) fn goes_on_to_storage()
 {}
 
 /// Answers name the first program that keeps a byte, its least such byte, and the first byte that
-/// has changed.
+/// has changed, and nothing else.
 pub(crate) fn named_is_first()
     ensures { NamedIsFirst }
+{}
+
+/// The question before a start has one answer at most.
+#[tactic(auto, using(crate::proofs::Answering::one_answer))]
+pub(crate) fn one_answer()
+    ensures { OneAnswer }
 {}
 
 /// A history can go on with the start of a program that may start.
@@ -160,8 +172,9 @@ pub(crate) fn lasting_writes()
     ensures { LastingWrites }
 {}
 
-/// The laws on supervision aren't empty: it begins over any storage, and what is remembered,
-/// listed, allowed and written follows from its parts.
+/// The laws on supervision aren't empty: it begins over any storage; what is remembered, listed,
+/// allowed and written follows from its parts; and a list of all that is remembered has each
+/// program in flight.
 #[tactic(auto, using(crate::proofs::Possible::can_be_supervised))]
 pub(crate) fn can_be_supervised()
     ensures { CanBeSupervised }

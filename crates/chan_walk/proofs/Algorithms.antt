@@ -13,3 +13,5 @@ pub mod Listing
 pub mod Tracing
 pub mod Opened
 pub mod Moved
+pub mod OneVerdict
+pub mod FaultyStart

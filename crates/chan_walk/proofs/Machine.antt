@@ -8,6 +8,7 @@ pub mod Quiet
 pub mod Paths
 pub mod Operations
 pub mod Changed
+pub mod Free
 pub mod Alarm
 pub mod Harm
 pub mod Exact

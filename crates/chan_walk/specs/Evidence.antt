@@ -1,4 +1,4 @@
--- The evidence for an offence: the values of its cause; and which a place's own fault has.
+-- The evidence for an offence, the values that show it; and which a place's own fault has.
 use Rattle.std.specs.Prelude.{◌≡◌, ℕ, ◌+◌, ◌*◌, ◌%◌, ◌<◌, ◌≤◌, true, false, List, length}
 use Rattle.std.specs.Prelude.{slice_index, Option, Some, None, ◌↔◌, IsTrue}
 use Rattle.ccw_core.specs.Areas.{IsFirstGap}
@@ -66,34 +66,35 @@ reason_of (because.ChangesArgument range b taker argument) = reasons.ChangesArgu
 reason_of (because.WeakensMask b mask) = reasons.WeakensMask
 
 -- it is the evidence for an own fault, and its values are those of the place
-abbrev pub IsOwnCause : Job → Place → Evidence → Type 0
-IsOwnCause j p (because.Misaligned a) = a ≡ p.address
-IsOwnCause j p (because.OutsideStorage ccw n) =
+abbrev pub IsOwnEvidence : Job → Place → Evidence → Type 0
+IsOwnEvidence j p (because.Misaligned a) = a ≡ p.address
+IsOwnEvidence j p (because.OutsideStorage ccw n) =
     (ccw ≡ record { start = p.address; len = 8 }) × (n ≡ length (storage_of j))
-IsOwnCause j p (because.TransferNotAllowed first) = IsTrue first ↔ (p ≡ first_place j)
-IsOwnCause j p (because.InvalidCode code) = code ≡ (ccw_of j p).command
-IsOwnCause j p (because.BadFormat bits) = bits ≡ (ccw_of j p).flags % 8
-IsOwnCause j p because.ZeroCount = Unit {0}
-IsOwnCause j p (because.DataOutside range n) = (range ≡ data_at j p) × (n ≡ length (storage_of j))
-IsOwnCause j p (because.NotInTable code) = code ≡ (ccw_of j p).command
-IsOwnCause j p (because.Inhibited mask code) = (mask ≡ j.mask) × (code ≡ (ccw_of j p).command)
-IsOwnCause j p (because.StoreNotLent range gap) =
+IsOwnEvidence j p (because.TransferNotAllowed first) = IsTrue first ↔ (p ≡ first_place j)
+IsOwnEvidence j p (because.InvalidCode code) = code ≡ (ccw_of j p).command
+IsOwnEvidence j p (because.BadFormat bits) = bits ≡ (ccw_of j p).flags % 8
+IsOwnEvidence j p because.ZeroCount = Unit {0}
+IsOwnEvidence j p (because.DataOutside range n) =
+    (range ≡ data_at j p) × (n ≡ length (storage_of j))
+IsOwnEvidence j p (because.NotInTable code) = code ≡ (ccw_of j p).command
+IsOwnEvidence j p (because.Inhibited mask code) = (mask ≡ j.mask) × (code ≡ (ccw_of j p).command)
+IsOwnEvidence j p (because.StoreNotLent range gap) =
     (range ≡ data_at j p) × IsFirstGap (store_of j) range gap
-IsOwnCause j p (because.FetchNotLent range gap) =
+IsOwnEvidence j p (because.FetchNotLent range gap) =
     (range ≡ data_at j p) × IsFirstGap (fetch_of j) range gap
-IsOwnCause j p (because.ShortSeek given) =
+IsOwnEvidence j p (because.ShortSeek given) =
     ChainGives (storage_of j) p.address given.count × AreGiven (storage_of j) p.address given
-IsOwnCause j p (because.SeekOutside outside argument) =
+IsOwnEvidence j p (because.SeekOutside outside argument) =
     ((x : List ℕ) × SeeksTo j p x × IsOutside j x outside) × IsArgumentAt j p argument
-IsOwnCause j p (because.ChangesCcw range ccw) = ⊥
-IsOwnCause j p (because.ChangesArgument range b taker argument) = ⊥
-IsOwnCause j p (because.WeakensMask b mask) =
+IsOwnEvidence j p (because.ChangesCcw range ccw) = ⊥
+IsOwnEvidence j p (because.ChangesArgument range b taker argument) = ⊥
+IsOwnEvidence j p (because.WeakensMask b mask) =
     (b ≡ byte (storage_of j) (ccw_of j p).address) × (mask ≡ j.mask)
 
 -- a reason and its evidence at p go together: both are found, or neither is
 abbrev pub GoTogether : Job → Place → Option Reason → Option Evidence → Type 0
 GoTogether j p r None = r ≡ None
-GoTogether j p r (Some e) = (r ≡ Some (reason_of e)) × IsOwnCause j p e
+GoTogether j p r (Some e) = (r ≡ Some (reason_of e)) × IsOwnEvidence j p e
 
 -- the own fault of p with its evidence, or that it has none
 pub record IsOwnFault (j : Job) (p : Place) (o : Option Evidence) : Type 0 where

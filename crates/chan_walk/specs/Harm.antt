@@ -74,16 +74,18 @@ BreaksHeadline j ChangesCcw m = IsUnsteady j m
 BreaksHeadline j ChangesArgument m = IsUnsteady j m
 BreaksHeadline j WeakensMask m = HasUnsafeEvent j m
 
--- a run over the places ps to p goes on to a moment that breaks a promise in the way of a reason
+-- a run over the places ps to p goes on to a moment that does harm, and breaks a promise in the way
+-- of a reason
 pub record BreaksAt (j : Job) (p : Place) (ps : List Place) (r : Reason) : Type 0 where
   pub run : List Moment
   pub more : List Moment
   pub last : Moment
   pub is_run : IsRun j (last ∷ (more ++ run))
   pub over : ArePlaces run (p ∷ ps)
+  pub harm : IsHarm j last
   pub breaks : BreaksHeadline j r last
 
--- whatever is shown for a reason breaks a promise in its way
+-- whatever is shown for a reason does harm, and breaks a promise in its way
 abbrev pub ShownBreaks : Type 0
 ShownBreaks =
     (j : Job) (p : Place) (ps : List Place) (r : Reason) → ShowsReason j p ps r → BreaksAt j p ps r

@@ -11,6 +11,7 @@ pub mod Guarded
 pub mod Verdict
 -- The machine: what a program does while it runs.
 pub mod Machine
+pub mod Free
 pub mod Runs
 -- The laws: what a verdict means for every run.
 pub mod Headline

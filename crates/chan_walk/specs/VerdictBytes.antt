@@ -1,20 +1,21 @@
 -- The bytes of storage on which a verdict rests; another storage that holds the same in them gets
 -- the same verdict. `Guarded` has them side by side with other sets of bytes.
-use Rattle.std.specs.Prelude.{◌≡◌, ℕ, ◌+◌, ◌<◌, ◌≤◌, true, List, ◌⊎◌, ◌↔◌}
+use Rattle.std.specs.Prelude.{◌≡◌, ℕ, ◌+◌, ◌<◌, ◌≤◌, true, false, List, Some, ◌⊎◌, ◌↔◌}
 use Rattle.ccw_core.specs.declared.storage.Storage.{Storage}
 use Rattle.ccw_core.specs.Ccw.{ccw, chains_data}
 use Rattle.ccw_core.specs.Held.{bytes_held}
 use Rattle.ccw_core.specs.Storage.{Stands}
 use Rattle.chan_walk.specs.declared.job.Job.{Job}
 use Rattle.chan_walk.specs.declared.place.Place.{Place}
+use Rattle.chan_walk.specs.declared.reason.Reason.{Reason}
 use Rattle.chan_walk.specs.declared.verdict.Verdict.{Verdict}
 use Rattle.chan_walk.specs.declared.verdict.Verdict.TheVariants.{Yes}
 use Rattle.chan_walk.specs.Argument.{is_part, ChainLeads}
-use Rattle.chan_walk.specs.Fault.{begins_seek}
+use Rattle.chan_walk.specs.Fault.{HasFault, begins_seek, begins_set_mask}
 use Rattle.chan_walk.specs.Guarded.{IsCcwByte, TakesArgumentByte, IsGuarded}
 use Rattle.chan_walk.specs.Headline.{AreSafe, AreSteady, EachMomentOfYes}
 use Rattle.chan_walk.specs.Job.{storage_of, HasMask}
-use Rattle.chan_walk.specs.Place.{ccw_of}
+use Rattle.chan_walk.specs.Place.{ccw_of, first_place}
 use Rattle.chan_walk.specs.Reachable.{IsReachable}
 use Rattle.chan_walk.specs.Runs.{IsRunAmong, IsSameIn}
 use Rattle.chan_walk.specs.Verdict.{IsVerdict}
@@ -57,6 +58,15 @@ abbrev pub SameVerdict : Type 0
 SameVerdict = (j : Job) (t : Storage) → IsSameIn (IsVerdictByte j) (storage_of j) (bytes_held t) →
     ((p : Place) → IsReachable j p ↔ IsReachable (with_storage j t) p)
     × ((v : Verdict) → IsVerdict j v ↔ IsVerdict (with_storage j t) v)
+
+-- and after a no they are no more than that: where the first CCW has an own fault, and begins
+-- neither a seek nor Set File Mask, the verdict rests on its eight bytes alone
+abbrev pub FaultyStartIsAll : Type 0
+FaultyStartIsAll =
+    (j : Job) (r : Reason) (b : ℕ) → HasFault j (first_place j) (Some r)
+    → begins_seek (first_place j) (ccw_of j (first_place j)) ≡ false
+    → begins_set_mask (first_place j) (ccw_of j (first_place j)) ≡ false
+    → IsVerdictByte j b → (j.start ≤ b) × (b < j.start + 8)
 
 -- under a yes each verdict byte is guarded
 abbrev pub VerdictByteIsGuarded : Type 0

@@ -1,4 +1,4 @@
-//! Evidence: the values of an offence's cause.
+//! Evidence: the values that show an offence.
 
 ghost use Rattle.std.specs.Prelude.{◌≡◌};
 ghost use Rattle.chan_walk.specs.Evidence as specs;
@@ -8,7 +8,7 @@ use crate::reason::Reason;
 use ccw_core::Area;
 use ckd_core::FileMask;
 
-/// Why a program may not run, with the values of the cause.
+/// Why a program may not run, with the values that show it.
 #[derive(Clone, Copy)]
 pub enum Evidence {
     /// This address of the CCW isn't a multiple of 8.

@@ -3,14 +3,17 @@
 
 ghost use Rattle.chan_walk.specs.Alarm.{EachPathIsRun, EachPathShows, GuardedIsUsed};
 ghost use Rattle.chan_walk.specs.Alarm.{HeadlineAloneIsEnough, NoFalseAlarm, SafeIsYes, StaysSafe};
-ghost use Rattle.chan_walk.specs.VerdictBytes.{VerdictByteIsGuarded, SafeSinceAsked, SameVerdict};
+ghost use Rattle.chan_walk.specs.VerdictBytes.{FaultyStartIsAll, SafeSinceAsked, SameVerdict};
+ghost use Rattle.chan_walk.specs.VerdictBytes.{VerdictByteIsGuarded};
 ghost use Rattle.chan_walk.specs.VerdictBytes.{YesByGuarded, YesStays};
+ghost use Rattle.chan_walk.specs.Free.{MachineIsFree, SettingCanBe, StoredIsThere};
 ghost use Rattle.chan_walk.specs.Harm.{HarmlessIsSafe, NoIsHarm, ShownBreaks};
 ghost use Rattle.chan_walk.specs.Headline.{GathersArguments, GuardedStays, StaysReachable};
 ghost use Rattle.chan_walk.specs.Headline.{YesIsSafe, YesIsSafeAmong};
 ghost use Rattle.chan_walk.specs.Offence.{FirstIsVerdict};
 ghost use Rattle.chan_walk.specs.OpenJob.{MoreIsYes, OpenJobIsOpen, SameUnderYes};
 ghost use Rattle.chan_walk.specs.Order.{NumbersIncrease};
+ghost use Rattle.chan_walk.specs.Verdict.{OneVerdict};
 
 /// Where the verdict is yes, guarded bytes never change.
 #[tactic(auto, using(crate::proofs::Machine::Yes::guarded_stays))]
@@ -58,6 +61,31 @@ pub(crate) fn each_path_shows()
     ensures { EachPathShows }
 {}
 
+/// From each moment at which a CCW is carried out, whatever the device may move, wherever the arm,
+/// the mask and the program may go, and that it ends: some step does just that.
+#[tactic(auto, using(crate::proofs::Machine::Free::machine_is_free))]
+pub(crate) fn machine_is_free()
+    ensures { MachineIsFree }
+{}
+
+/// What a step stores is there after it.
+#[tactic(auto, using(crate::proofs::Machine::Free::stored_is_there))]
+pub(crate) fn stored_is_there()
+    ensures { StoredIsThere }
+{}
+
+/// What is said to be set at a place can be set there by a step.
+#[tactic(auto, using(crate::proofs::Machine::Free::setting_can_be))]
+pub(crate) fn setting_can_be()
+    ensures { SettingCanBe }
+{}
+
+/// A job has one verdict at most.
+#[tactic(auto, using(crate::proofs::Algorithms::OneVerdict::one_verdict))]
+pub(crate) fn one_verdict()
+    ensures { OneVerdict }
+{}
+
 /// The first of a job's offences is the verdict, and yes where there is none.
 pub(crate) fn first_is_verdict()
     ensures { FirstIsVerdict }
@@ -74,7 +102,7 @@ pub(crate) fn harmless_is_safe()
     ensures { HarmlessIsSafe }
 {}
 
-/// What is shown for a reason breaks a promise, in the way of the reason.
+/// What is shown for a reason does harm, and breaks a promise in the way of the reason.
 #[tactic(auto, using(crate::proofs::Machine::Harm::shown_breaks))]
 pub(crate) fn shown_breaks()
     ensures { ShownBreaks }
@@ -117,6 +145,12 @@ pub(crate) fn numbers_increase()
 /// The verdict depends on nothing in storage but its length and the verdict bytes.
 pub(crate) fn same_verdict()
     ensures { SameVerdict }
+{}
+
+/// Where the first CCW has an own fault, and begins neither a seek nor Set File Mask, the verdict
+/// rests on its eight bytes alone.
+pub(crate) fn faulty_start_is_all()
+    ensures { FaultyStartIsAll }
 {}
 
 /// Under a yes each verdict byte is guarded.

@@ -1,8 +1,8 @@
 -- What it says of a place that was looked at that it offends by a reason.
-use Rattle.chan_why.proofs.Names.{AreClear, arith, ChangesGuarded, data_at, Evidence, inl, inr, IsArgumentByte, IsArgumentIn, IsCause, IsCcwByte, IsCcwIn, IsClear, IsReachable, Job, Offends, Option, Place, Reason, refl, Some, sym, ℕ, ◌∙◌, ◌≡◌}
+use Rattle.chan_why.proofs.Names.{AreClear, arith, ChangesGuarded, data_at, Evidence, inl, inr, IsArgumentByte, IsArgumentIn, IsEvidenceAt, IsCcwByte, IsCcwIn, IsClear, IsReachable, Job, Offends, Option, Place, Reason, refl, Some, sym, ℕ, ◌∙◌, ◌≡◌}
 use Rattle.chan_walk.specs.declared.evidence.Evidence.TheVariants as because
 use Rattle.chan_walk.specs.declared.reason.Reason.TheVariants.{ChangesArgument, ChangesCcw}
-use Rattle.chan_walk.specs.Evidence.{IsOwnCause}
+use Rattle.chan_walk.specs.Evidence.{IsOwnEvidence}
 use Rattle.chan_walk.specs.Fault.{HasFault}
 use Rattle.chan_walk.specs.Verdict.{StoresOver}
 use Rattle.chan_walk.proofs.Algorithms.Looking.{never_both}
@@ -27,11 +27,11 @@ pub changes_argument : (j : Job) (p : Place) (t : Reason) → (t ≡ ChangesCcw 
 changes_argument j p t n (inl h) = absurd (n h.0)
 changes_argument j p t n (inr h) = h
 
--- the evidence for an own fault is that of its cause
-pub own_is_cause : (j : Job) (p : Place) (e : Evidence) → IsOwnCause j p e → IsCause j p e
-own_is_cause j p (because.ChangesCcw range ccw) h = absurd h
-own_is_cause j p (because.ChangesArgument range b taker argument) h = absurd h
-own_is_cause j p e h = h
+-- the evidence for an own fault is evidence at its place
+pub own_is_evidence : (j : Job) (p : Place) (e : Evidence) → IsOwnEvidence j p e → IsEvidenceAt j p e
+own_is_evidence j p (because.ChangesCcw range ccw) h = absurd h
+own_is_evidence j p (because.ChangesArgument range b taker argument) h = absurd h
+own_is_evidence j p e h = h
 
 -- ---- what is stored over
 

@@ -1,5 +1,5 @@
 -- What a store changes, among the places that were looked at.
-use Rattle.chan_why.proofs.Names.{[], Area, arith, begins_seek, cases_lt, ccw_of, ccw_seen, clear_stands, end_of, Evidence, false, Fields, get_or, GuardAreas, Guards, HasFound, inl, inr, IsArgumentByte, IsArgumentByteOf, IsArgumentIn, IsByteIn, IsCause, IsCcwByte, IsCcwIn, IsClear, IsFirstWhere, IsLeastOf, IsLeastOrNone, IsLook, IsPathAt, IsSecondPathEnd, IsSome, Job, length, lies_in, List, None, Option, Place, place_at, places_of_looks, refl, rules, Seen, Some, storage_of, subst, sym, true, whole_of, ℕ, ◌%◌, ◌+◌, ◌-◌, ◌<◌, ◌↔◌, ◌≡◌, ◌≤◌, ◌⊎◌}
+use Rattle.chan_why.proofs.Names.{[], Area, arith, begins_seek, cases_lt, ccw_of, ccw_seen, clear_stands, end_of, Evidence, false, Fields, get_or, GuardAreas, Guards, HasFound, inl, inr, IsArgumentByte, IsArgumentByteOf, IsArgumentIn, IsByteIn, IsEvidenceAt, IsCcwByte, IsCcwIn, IsClear, IsFirstWhere, IsLeastOf, IsLeastOrNone, IsLook, IsPathAt, IsSecondPathEnd, IsSome, Job, length, lies_in, List, None, Option, Place, place_at, places_of_looks, refl, rules, Seen, Some, storage_of, subst, sym, true, whole_of, ℕ, ◌%◌, ◌+◌, ◌-◌, ◌<◌, ◌↔◌, ◌≡◌, ◌≤◌, ◌⊎◌}
 use Rattle.std.proofs.lemmas.Bool.{cases_Bool, eqb-true}
 use Rattle.chan_walk.specs.declared.evidence.Evidence.TheVariants as because
 use Rattle.ccw_core.specs.Storage.{Stands, is_aligned}
@@ -137,7 +137,7 @@ module _ (j : Job) (ls : List Seen) (fs : List ℕ) (f : HasFound j ls fs) where
   second_found (because.ChangesArgument d b t s) i places n at = path_where j ls fs f (λ q. IsArgumentByteOf j q b) i places n at
   second_found e i places n at = absurd (cc)
 
-  pub none_found : (e : Evidence) (p : Place) (places : List Place) → IsCause j p e
+  pub none_found : (e : Evidence) (p : Place) (places : List Place) → IsEvidenceAt j p e
       → IsSecondPathEnd j e (places_of_looks ls) None → places ≡ [] → IsSecondPath j e places
   none_found (because.ChangesCcw d a) p places h n is = absurd (reached_at j ls fs f (λ q. q.address ≡ a) n h.1.0.place h.1.0.reached h.1.0.address)
   none_found (because.ChangesArgument d b t s) p places h n is =

@@ -1,5 +1,5 @@
 -- The path to a place that offends by the verdict's reason.
-use Rattle.chan_why.proofs.Names.{[], Evidence, false, get_or, Has, has_at, HasFound, HasLikeOffence, inl, IsCauseOf, IsFirstWhere, IsLook, IsPathAt, IsReachable, IsSome, IsStoredBefore, IsSurvey, Job, length, List, look_of, None, Offence, offence, Option, Place, place_at, places_of_looks, Reason, refl, reverse, Seen, slice_get, Some, subst, Surveyed, sym, true, ℕ, ◌++◌, ◌<◌, ◌∙◌, ◌∷◌, ◌≡◌}
+use Rattle.chan_why.proofs.Names.{[], Evidence, false, get_or, Has, has_at, HasFound, HasLikeOffence, inl, IsOffenceEvidence, IsFirstWhere, IsLook, IsPathAt, IsReachable, IsSome, IsStoredBefore, IsSurvey, Job, length, List, look_of, None, Offence, offence, Option, Place, place_at, places_of_looks, Reason, refl, reverse, Seen, slice_get, Some, subst, Surveyed, sym, true, ℕ, ◌<◌, ◌∙◌, ◌∷◌, ◌≡◌}
 use Rattle.chan_walk.specs.Alarm.{EachPathShows, IsProper}
 use Rattle.chan_why.specs.Witness.{IsCaseOf, IsEvidenceOf, IsPathOf, IsStoredOver, IsWitness, OffendsAt}
 use Rattle.chan_walk.specs.declared.verdict.Verdict.TheVariants.{No}
@@ -47,9 +47,9 @@ module _ (j : Job) (ls : List Seen) (fs : List ℕ) (f : HasFound j ls fs) (os :
       let is : p ≡ a.last = cc in
       (a.last, a.before, a.is, subst (λ (q : Place). IsEvidence j (offence q o.reason) e) is v)
 
-  pub cause_found : (i : ℕ) (p : Place) (e : Evidence) → slice_get ps i ≡ Some p
-      → IsFirstWhere (HasLikeOffence os o) ps (Some i) → IsEvidence j (offence p o.reason) e → IsCauseOf j o e
-  cause_found i p e here h v =
+  pub found_shows : (i : ℕ) (p : Place) (e : Evidence) → slice_get ps i ≡ Some p
+      → IsFirstWhere (HasLikeOffence os o) ps (Some i) → IsEvidence j (offence p o.reason) e → IsOffenceEvidence j o e
+  found_shows i p e here h v =
       let b = best_where j ls fs f (OffendsAt j o.place.address o.reason) i p (first_offending i h) here in
       (reverse (p ∷ b.0), record { last = p; before = b.0; is = refl; path = b.1 }, (p, b.0, refl, v))
 
@@ -72,7 +72,7 @@ module _ (j : Job) (s : Surveyed) (is : IsSurvey j s) (o : Offence) (listed : Ha
   case_there e v = record {
     path = λ places a. path_found j s.looks s.found_from is.found s.offences is.offences o listed at places a first;
     evidence = λ places a. evidence_found j s.looks s.found_from is.found s.offences is.offences o listed at l.place places e here a v;
-    cause = cause_found j s.looks s.found_from is.found s.offences is.offences o listed at l.place e here first v;
+    shows = found_shows j s.looks s.found_from is.found s.offences is.offences o listed at l.place e here first v;
   }
 
 -- the place that stores over what stands at the path's end

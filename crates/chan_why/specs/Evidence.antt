@@ -10,7 +10,7 @@ use Rattle.chan_walk.specs.declared.evidence.Evidence.TheVariants as because
 use Rattle.chan_walk.specs.declared.job.Job.{Job}
 use Rattle.chan_walk.specs.declared.offence.Offence.{Offence}
 use Rattle.chan_walk.specs.declared.place.Place.{Place}
-use Rattle.chan_walk.specs.Evidence.{IsArgumentAt, IsOwnCause, reason_of}
+use Rattle.chan_walk.specs.Evidence.{IsArgumentAt, IsOwnEvidence, reason_of}
 use Rattle.chan_walk.specs.Guard.{IsArgumentByteOf}
 use Rattle.chan_walk.specs.Guarded.{IsArgumentByte}
 use Rattle.chan_walk.specs.Job.{storage_of}
@@ -45,21 +45,21 @@ IsTakenAt j b a argument =
     × (taker.address ≡ a) × IsArgumentAt j taker argument
 
 -- its values are those of the place
-abbrev pub IsCause : Job → Place → Evidence → Type 0
-IsCause j p (because.ChangesCcw range ccw) =
+abbrev pub IsEvidenceAt : Job → Place → Evidence → Type 0
+IsEvidenceAt j p (because.ChangesCcw range ccw) =
     (range ≡ data_at j p) × IsLeastOf (IsCcwIn j range) ccw
-IsCause j p (because.ChangesArgument range b taker argument) =
+IsEvidenceAt j p (because.ChangesArgument range b taker argument) =
     (range ≡ data_at j p) × IsLeastOf (IsArgumentIn j range) b × IsTakenAt j b taker argument
-IsCause j p e = IsOwnCause j p e
+IsEvidenceAt j p e = IsOwnEvidence j p e
 
 -- it is the evidence for this offence
 abbrev pub IsEvidence : Job → Offence → Evidence → Type 0
-IsEvidence j o e = (reason_of e ≡ o.reason) × IsCause j o.place e
+IsEvidence j o e = (reason_of e ≡ o.reason) × IsEvidenceAt j o.place e
 
 -- ---- the second path
 
 -- the places of the path to what is changed: to the CCW that is stored over, or to a place that
--- takes the argument; no places for other causes
+-- takes the argument; no places for other evidence
 abbrev pub IsSecondPath : Job → Evidence → List Place → Type 0
 IsSecondPath j (because.ChangesCcw range ccw) places = ArePathWhere j (λ q. q.address ≡ ccw) places
 IsSecondPath j (because.ChangesArgument range b taker argument) places =

@@ -78,7 +78,7 @@ IsStoredOver j (No a r) places o =
     (is_no_command r ≡ true → IsStoredBefore j (reverse places) o)
     × (is_no_command r ≡ false → o ≡ None)
 
--- this shows the verdict, if it is a no: the path, its run, the cause, and what changes what
+-- this shows the verdict, if it is a no: the path, its run, the evidence, and what changes what
 pub record IsWitnessOf (j : Job) (v : Verdict) (w : Witness) : Type 0 where
   pub path : IsPathOf j v w.path.items
   pub shown : IsWitness j v w.path.items
@@ -100,8 +100,8 @@ HasLikeOffence os o p = (p.address ≡ o.place.address)
 
 -- the evidence is that of the last place of the path to a place that offends with the address and
 -- the reason of this offence
-abbrev pub IsCauseOf : Job → Offence → Evidence → Type 0
-IsCauseOf j o e =
+abbrev pub IsOffenceEvidence : Job → Offence → Evidence → Type 0
+IsOffenceEvidence j o e =
     (places : List Place) × IsPathOf j (No o.place.address o.reason) places
     × IsEvidenceOf j (No o.place.address o.reason) places (Some e)
 
@@ -112,4 +112,4 @@ pub record IsCaseOf (j : Job) (ps : List Place) (o : Offence) (at : ℕ) (e : Ev
       → IsPathOf j (No o.place.address o.reason) places
   pub evidence : (places : List Place) → IsPathAt j ps at places
       → IsEvidenceOf j (No o.place.address o.reason) places (Some e)
-  pub cause : IsCauseOf j o e
+  pub shows : IsOffenceEvidence j o e

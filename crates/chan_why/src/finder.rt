@@ -1,4 +1,4 @@
-//! What the causes of offences are found with: for a key, the first place of a walk that has it.
+//! What evidence is found with: for a key, the first place of a walk that has it.
 
 ghost use Rattle.std.specs.Prelude.{◌≡◌, ◌+◌, ◌<◌, length, IfOk, OnOk};
 ghost use Rattle.std.specs.BTreeMap as tree;
@@ -17,7 +17,7 @@ use chan_walk::{Look, Offence, Survey};
 use std::alloc::{AllocError, Global};
 use std::collections::BTreeMap;
 
-/// An index of a survey, by which the causes of all offences are found. A question costs the
+/// An index of a survey, by which the evidence for all offences is found. A question costs the
 /// logarithm of the number of places.
 #[derive(Drop)]
 pub(crate) struct Finder {
@@ -62,7 +62,7 @@ fn kind_number(offence: Offence) -> u64
 }
 
 /// The lesser of two indexes, of which the first may be missing.
-fn lesser(best: Option<usize>, at: usize) -> usize
+fn first_index(best: Option<usize>, at: usize) -> usize
     ensures { IsLesserOf best at result }
 {
     match best {
@@ -72,21 +72,21 @@ fn lesser(best: Option<usize>, at: usize) -> usize
 }
 
 /// Notes that the look of an index has a key, unless an earlier look has it.
-fn note(first: &mut BTreeMap<u64, usize>, key: u64, at: usize) -> Result<(), AllocError>
+fn keep_first(first: &mut BTreeMap<u64, usize>, key: u64, at: usize) -> Result<(), AllocError>
     ensures { OnOk result (KeepsLeast key at first.old first.new) }
 {
-    let least = lesser(first.get(&key).copied(), at);
+    let least = first_index(first.get(&key).copied(), at);
     first.insert(key, least)?;
     Ok(())
 }
 
 /// The index of the look at each place.
-fn places_of(alloc: Global, looks: &[Look]) -> Result<BTreeMap<u64, usize>, AllocError>
+fn index_by_place(alloc: Global, looks: &[Look]) -> Result<BTreeMap<u64, usize>, AllocError>
     ensures { IfOk result (IsIndex (IsAtPlace looks.now (length looks.now))) }
 {
     let mut first = BTreeMap::new(alloc);
     for at in 0..looks.len() {
-        note(&mut first, looks[at].place().number(), at)?;
+        keep_first(&mut first, looks[at].place().number(), at)?;
     }
     Ok(first)
 }
@@ -98,7 +98,7 @@ fn note_bytes(first: &mut BTreeMap<u64, usize>, looks: &[Look], at: usize) -> Re
     ensures { OnOk result (IsIndex (TakesByte looks.now (at + 1)) first.new) }
 {
     for byte in looks[at].argument() {
-        note(first, u64::from(*byte), at)?;
+        keep_first(first, u64::from(*byte), at)?;
     }
     Ok(())
 }
@@ -125,12 +125,12 @@ fn offenders_of(
         → Has (places_of_looks looks.now) o.place }
     ensures { IfOk result (IsIndex (IsOfKind looks.now offences.now (length offences.now))) }
 {
-    let places = places_of(alloc, looks)?;
+    let places = index_by_place(alloc, looks)?;
     let mut first = BTreeMap::new(alloc);
     for offence in offences {
         // The place of each offence was looked at.
         let at = places.get(&offence.place.number()).copied().unwrap();
-        note(&mut first, kind_number(*offence), at)?;
+        keep_first(&mut first, kind_number(*offence), at)?;
     }
     Ok(first)
 }

@@ -1,5 +1,5 @@
-//! Why a channel program may not run: the path to a place that offends, the values of the cause,
-//! and the path to what is changed; and what a verdict leaves open, the notes.
+//! Why a channel program may not run: the path to a place that offends, the evidence there, and the
+//! path to what is changed; and what a verdict leaves open, the notes.
 //!
 //! ```
 //! fn shows(alloc: Global, survey: &Survey) -> Result<Vec<Place>, AllocError>

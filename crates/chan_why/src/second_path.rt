@@ -2,7 +2,7 @@
 
 ghost use Rattle.std.specs.Prelude.{◌≡◌, length, IfOk};
 ghost use Rattle.chan_why.specs.SecondPath.{IsSecondPathEnd};
-ghost use Rattle.chan_why.specs.Evidence.{IsCause, IsSecondPath};
+ghost use Rattle.chan_why.specs.Evidence.{IsEvidenceAt, IsSecondPath};
 ghost use Rattle.chan_why.specs.Finder.{IsIndex, TakesByte};
 ghost use Rattle.chan_walk.specs.JobSurvey.{IsSurvey};
 ghost use Rattle.chan_walk.specs.Look.{AreLooks, places_of_looks};
@@ -41,19 +41,19 @@ fn changed_place(looks: &[Look], finder: &Finder, evidence: &Evidence) -> Option
     }
 }
 
-/// The path to what is changed; no places where the cause isn't a change.
+/// The path to what is changed; no places if the evidence shows no change.
 pub(crate) fn second_path(
     alloc: Global,
     survey: &Survey,
     finder: &Finder,
     evidence: &Evidence,
 ) -> Result<Vec<Place>, AllocError>
-    requires cause { (j : Job) × IsSurvey j survey.now
-        × ((p : places.Place) × IsCause j p evidence.now) }
+    requires shown { (j : Job) × IsSurvey j survey.now
+        × ((p : places.Place) × IsEvidenceAt j p evidence.now) }
     requires takers { IsIndex (TakesByte survey.now.looks (length survey.now.looks))
         finder.now.takers }
     ensures { IfOk result (λ path. (j : Job) → IsSurvey j survey.now → (p : places.Place)
-        → IsCause j p evidence.now → IsSecondPath j evidence.now path.items) }
+        → IsEvidenceAt j p evidence.now → IsSecondPath j evidence.now path.items) }
 {
     match changed_place(survey.looks(), finder, evidence) {
         Some(at) => {

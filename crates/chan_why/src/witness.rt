@@ -1,5 +1,4 @@
-//! What shows that a program may not run: the path to a place that offends, and the values of the
-//! cause.
+//! What shows that a program may not run: the path to a place that offends, and the evidence there.
 
 ghost use Rattle.std.specs.Prelude.{◌≡◌, ◌<◌, true, false, None, IfOk, IfSome, length};
 ghost use Rattle.chan_why.specs.Finder.{FindsFirst};
@@ -32,7 +31,7 @@ use std::alloc::{AllocError, Global};
 pub struct Witness {
     /// The places of the path, from the first place on.
     pub path: Vec<Place>,
-    /// The values of the cause.
+    /// The evidence for the offence.
     pub evidence: Option<Evidence>,
     /// The last place of the path before its end that stores one of the eight bytes from the end's
     /// address on, if the reason is that no command is there: the bytes that will be there aren't

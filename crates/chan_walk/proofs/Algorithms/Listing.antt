@@ -49,7 +49,7 @@ reasons =
 reason_there : (r : Reason) → get_or reasons (number_of r) Misaligned ≡ r
 reason_there r = search rules
 
-same_reason : (r t : Reason) → number_of r ≡ number_of t → r ≡ t
+pub same_reason : (r t : Reason) → number_of r ≡ number_of t → r ≡ t
 same_reason r t e = sym (reason_there r) ∙ ap (λ n. get_or reasons n Misaligned) e ∙ reason_there t
 
 -- a lesser number comes first

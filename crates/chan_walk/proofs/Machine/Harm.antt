@@ -5,47 +5,7 @@ use Rattle.chan_walk.specs.Harm.{BreaksHeadline, BreaksAt, HarmlessIsSafe, IsUns
 use Rattle.chan_walk.specs.Headline.{IsSafe, IsSteady}
 use Rattle.chan_walk.proofs.Machine.Alarm.{no_false_alarm}
 
--- ---- each reason breaks a promise
-
-module _ (j : Job) (p : Place) (ps : List Place) where
-  in_step : {P : Moment → Type 0} (r : Reason) → ((m : Moment) → P m → BreaksHeadline j r m) → ShowsInStep j p ps P → BreaksAt j p ps r
-  in_step r f s = record { run = s.at ∷ s.run; more = []; last = s.next; is_run = s.is_run; over = s.over; breaks = f s.next s.shows }
-
-  in_operation : {P : Moment → Moment → Type 0} (r : Reason) → ((at m : Moment) → P at m → BreaksHeadline j r m) → ShowsInOperation j p ps P → BreaksAt j p ps r
-  in_operation r f s = record { run = s.at ∷ s.run; more = s.more; last = s.next; is_run = s.is_run; over = s.over; breaks = f s.at s.next s.shows }
-
-  stopped : (r : Reason) (m : Moment) → m.stage ≡ Checked r → IsStopped m
-  stopped r m e u = subst MeetsNoProgramCheck e u
-
-  changed : (Q : List Moment → ℕ → Type 0) → ((used : List Moment) (b : ℕ) → Q used b → Uses used b) → (m : Moment) → ChangesUsed j Q m → IsUnsteady j m
-  changed Q to m w = let u = w.6 in (w.2, (u.1, u.2, to u.1 w.2 u.3), u.0)
-
-  short : (m : Moment) → Has m.events (Seek None) ⊎ ((r : Reason) × (m.stage ≡ Checked r)) → BreaksHeadline j ShortSeek m
-  short m (inl h) = inl (Seek None, h, λ s. s)
-  short m (inr h) = inr (stopped h.0 m h.1)
-
-  breaks : (r : Reason) → ShowsReason j p ps r → BreaksAt j p ps r
-  breaks Misaligned = in_step _ (stopped _)
-  breaks OutsideStorage = in_step _ (stopped _)
-  breaks TransferNotAllowed = in_step _ (stopped _)
-  breaks InvalidCode = in_step _ (stopped _)
-  breaks BadFormat = in_step _ (stopped _)
-  breaks ZeroCount = in_step _ (stopped _)
-  breaks DataOutside = in_step _ (stopped _)
-  breaks NotInTable = in_step _ (λ m w. (Command w.0, w.1, λ s. both_ways _ w.2 s.0))
-  breaks Inhibited = in_step _ (λ m w. (Command w.0, w.1, λ s. both_ways _ s.1 w.2))
-  breaks StoreNotLent = in_step _ (λ m w. (Store w.0 w.1, w.3, λ s. both_ways _ w.6 (s w.2 w.4 w.5)))
-  breaks FetchNotLent = in_step _ (λ m w. (Fetch w.0 w.1, w.3, λ s. both_ways _ w.6 (s w.2 w.4 w.5)))
-  breaks ShortSeek = in_operation _ (λ at m w. short m w.3)
-  breaks SeekOutside = in_operation _ (λ at m w. (Seek (Some w.1), w.2, λ s. both_ways _ w.3 s))
-  breaks ChangesCcw = in_step _ (changed UsesInCcw (λ used b h. inl h))
-  breaks ChangesArgument = in_step _ (changed UsesInArgument (λ used b h. inr h))
-  breaks WeakensMask = in_step _ (λ m w. (SetMask w.1 w.2, w.3, λ s. both_ways _ w.4 s))
-
-pub shown_breaks : ShownBreaks
-shown_breaks = breaks
-
--- ---- so that some run does harm
+-- ---- what breaks a promise does harm
 
 event_safe : (j : Job) (es : List Event) (e : Event) → AllByRecursion (IsSafeEvent j) es → Has es e → IsSafeEvent j e
 event_safe j [] e a h = elim h [ ]
@@ -81,8 +41,54 @@ module _ (j : Job) (m : Moment) where
   is_harm ChangesArgument h = inr h
   is_harm WeakensMask h = by_event h
 
+-- ---- each reason breaks a promise
+
+module _ (j : Job) (p : Place) (ps : List Place) where
+  in_step : {P : Moment → Type 0} (r : Reason) → ((m : Moment) → P m → BreaksHeadline j r m) → ShowsInStep j p ps P → BreaksAt j p ps r
+  in_step r f s =
+      let breaks = f s.next s.shows in
+      record { run = s.at ∷ s.run; more = []; last = s.next; is_run = s.is_run; over = s.over; harm = is_harm j s.next r breaks; breaks = breaks }
+
+  in_operation : {P : Moment → Moment → Type 0} (r : Reason) → ((at m : Moment) → P at m → BreaksHeadline j r m) → ShowsInOperation j p ps P → BreaksAt j p ps r
+  in_operation r f s =
+      let breaks = f s.at s.next s.shows in
+      record { run = s.at ∷ s.run; more = s.more; last = s.next; is_run = s.is_run; over = s.over; harm = is_harm j s.next r breaks; breaks = breaks }
+
+  stopped : (r : Reason) (m : Moment) → m.stage ≡ Checked r → IsStopped m
+  stopped r m e u = subst MeetsNoProgramCheck e u
+
+  changed : (Q : List Moment → ℕ → Type 0) → ((used : List Moment) (b : ℕ) → Q used b → Uses used b) → (m : Moment) → ChangesUsed j Q m → IsUnsteady j m
+  changed Q to m w = let u = w.6 in (w.2, (u.1, u.2, to u.1 w.2 u.3), u.0)
+
+  short : (m : Moment) → Has m.events (Seek None) ⊎ ((r : Reason) × (m.stage ≡ Checked r)) → BreaksHeadline j ShortSeek m
+  short m (inl h) = inl (Seek None, h, λ s. s)
+  short m (inr h) = inr (stopped h.0 m h.1)
+
+  breaks : (r : Reason) → ShowsReason j p ps r → BreaksAt j p ps r
+  breaks Misaligned = in_step _ (stopped _)
+  breaks OutsideStorage = in_step _ (stopped _)
+  breaks TransferNotAllowed = in_step _ (stopped _)
+  breaks InvalidCode = in_step _ (stopped _)
+  breaks BadFormat = in_step _ (stopped _)
+  breaks ZeroCount = in_step _ (stopped _)
+  breaks DataOutside = in_step _ (stopped _)
+  breaks NotInTable = in_step _ (λ m w. (Command w.0, w.1, λ s. both_ways _ w.2 s.0))
+  breaks Inhibited = in_step _ (λ m w. (Command w.0, w.1, λ s. both_ways _ s.1 w.2))
+  breaks StoreNotLent = in_step _ (λ m w. (Store w.0 w.1, w.3, λ s. both_ways _ w.6 (s w.2 w.4 w.5)))
+  breaks FetchNotLent = in_step _ (λ m w. (Fetch w.0 w.1, w.3, λ s. both_ways _ w.6 (s w.2 w.4 w.5)))
+  breaks ShortSeek = in_operation _ (λ at m w. short m w.3)
+  breaks SeekOutside = in_operation _ (λ at m w. (Seek (Some w.1), w.2, λ s. both_ways _ w.3 s))
+  breaks ChangesCcw = in_step _ (changed UsesInCcw (λ used b h. inl h))
+  breaks ChangesArgument = in_step _ (changed UsesInArgument (λ used b h. inr h))
+  breaks WeakensMask = in_step _ (λ m w. (SetMask w.1 w.2, w.3, λ s. both_ways _ w.4 s))
+
+pub shown_breaks : ShownBreaks
+shown_breaks = breaks
+
+-- ---- so that some run does harm
+
 pub shown_harms : (j : Job) (p : Place) (ps : List Place) (r : Reason) → ShowsReason j p ps r → MayHarm j
-shown_harms j p ps r s = let b = breaks j p ps r s in (b.last ∷ (b.more ++ b.run), b.is_run, (b.last, inl refl, is_harm j b.last r b.breaks))
+shown_harms j p ps r s = let b = breaks j p ps r s in (b.last ∷ (b.more ++ b.run), b.is_run, (b.last, inl refl, b.harm))
 
 pub no_is_harm : NoIsHarm
 no_is_harm j a r proper v = let w = no_false_alarm j a r proper v in shown_harms j w.0 w.2.0 r w.2.2

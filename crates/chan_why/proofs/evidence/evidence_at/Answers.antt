@@ -1,8 +1,8 @@
-use Rattle.chan_why.proofs.Names.{ap, Area, AreClear, ccw_of, ccw_seen, ChangesGuarded, clear_stands, data_at, data_of, Evidence, Fields, GuardAreas, Guards, IsArgumentIn, IsCause, IsCcwIn, IsLook, IsOwnFault, IsSome, Job, None, Offends, Option, own_clear, Place, Reason, refl, Seen, Some, subst, sym, ℕ, ◌∙◌, ◌≡◌}
+use Rattle.chan_why.proofs.Names.{ap, Area, AreClear, ccw_of, ccw_seen, ChangesGuarded, clear_stands, data_at, data_of, Evidence, Fields, GuardAreas, Guards, IsArgumentIn, IsEvidenceAt, IsCcwIn, IsLook, IsOwnFault, IsSome, Job, None, Offends, Option, own_clear, Place, Reason, refl, Seen, Some, subst, sym, ℕ, ◌∙◌, ◌≡◌}
 use Rattle.std.proofs.lemmas.Option.{same_Some}
 use Rattle.chan_walk.specs.Evidence.{reason_of}
 use Rattle.chan_walk.proofs.Algorithms.Looking.{none_shown, own_faulty}
-use Rattle.chan_why.proofs.Causes.{changes_argument, changes_ccw, offends_by_change, offends_by_own, over_argument, over_ccw, own_is_cause}
+use Rattle.chan_why.proofs.Causes.{changes_argument, changes_ccw, offends_by_change, offends_by_own, over_argument, over_ccw, own_is_evidence}
 use Rattle.chan_why.proofs.evidence.evidence_at.Goals as goal
 
 -- a place that offends without an own fault: its CCW is seen, and it changes what is guarded
@@ -21,7 +21,7 @@ returns-in-Some c j s look offends =
     let p = c.args.look.now.place in
     let e = c.in-Some.evidence in
     let own = own_faulty j p e (subst (IsOwnFault j p) (sym c.fault.ensures ∙ c.in-Some.is) look.fault) in
-    (offends_by_own j p (reason_of e) c.args.reason offends.0 own.0 offends.1, own_is_cause j p e own.1)
+    (offends_by_own j p (reason_of e) c.args.reason offends.0 own.0 offends.1, own_is_evidence j p e own.1)
 
 pub unwrap-requires : goal.unwrap-requires
 unwrap-requires c =
@@ -57,7 +57,7 @@ returns-in-ChangesCcw c j s look offends =
     (none_shown c.fault.result c.in_default.not-Some) c.ccw.result c.ccw.ensures in
     let range = ranged j p c.ccw.result h.0 c.unwrap.result c.unwrap.ensures c.data_of-data.result c.data_of-data.ensures.range in
     let found = c.changed_ccw.ensures j (subst (λ (g : GuardAreas). Guards j g) (sym c.guard.ensures) s.guard) in
-    subst (λ (e : Evidence). (reason_of e ≡ c.args.reason) × IsCause j p e) (sym found.1) (sym c.in-ChangesCcw.is, (range, found.2))
+    subst (λ (e : Evidence). (reason_of e ≡ c.args.reason) × IsEvidenceAt j p e) (sym found.1) (sym c.in-ChangesCcw.is, (range, found.2))
 
 pub returns-in_default-reason : goal.returns-in_default-reason
 returns-in_default-reason c j s look offends =
@@ -67,4 +67,4 @@ returns-in_default-reason c j s look offends =
     let range = ranged j p c.ccw.result h.0 c.unwrap.result c.unwrap.ensures c.data_of-data.result c.data_of-data.ensures.range in
     let over = changes_argument j p c.args.reason c.in_default-reason.not-ChangesCcw h.2 in
     let found = c.changed_argument.ensures j s h.1 in
-    subst (λ (e : Evidence). (reason_of e ≡ c.args.reason) × IsCause j p e) (sym found.3) (sym over.0, (range, found.4, found.5))
+    subst (λ (e : Evidence). (reason_of e ≡ c.args.reason) × IsEvidenceAt j p e) (sym found.3) (sym over.0, (range, found.4, found.5))

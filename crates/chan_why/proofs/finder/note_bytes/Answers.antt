@@ -10,8 +10,8 @@ loop-byte-preserved c =
     let ls = c.args.looks.now in
     let xs = c.argument-byte-items.result.now in
     let i = c.loop-byte.byte-index in
-    note_more (TakesSoFar ls c.args.at xs i) (TakesSoFar ls c.args.at xs (i + 1)) c.from.result c.args.at c.loop-byte.first c.note.new.first
-    (byte_more ls c.args.at xs i c.from.result _ (omega arith) c.from.ensures) c.loop-byte.invariant c.in_ok-note.ensures
+    note_more (TakesSoFar ls c.args.at xs i) (TakesSoFar ls c.args.at xs (i + 1)) c.from.result c.args.at c.loop-byte.first c.keep_first.new.first
+    (byte_more ls c.args.at xs i c.from.result _ (omega arith) c.from.ensures) c.loop-byte.invariant c.in_ok-keep_first.ensures
 
 pub returns : goal.returns
 returns c =

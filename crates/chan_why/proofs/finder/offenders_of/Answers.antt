@@ -23,9 +23,9 @@ loop-offence-preserved c =
     let found = c.copied.ensures ∙ c.get.ensures.value ∙ ap (λ k. tree.get nat_cmp c.in_ok-places.places k) c.number.ensures in
     let at = subst (IsLeastOrNone (IsAtPlace ls (length ls) (place_number o.place)))
     (sym found ∙ c.unwrap-at.ensures) (c.in_ok-places.ensures (place_number o.place)) in
-    note_more (IsOfKind ls os i) (IsOfKind ls os (i + 1)) c.kind_number.result c.unwrap-at.result c.loop-offence.first c.note.new.first
+    note_more (IsOfKind ls os i) (IsOfKind ls os (i + 1)) c.kind_number.result c.unwrap-at.result c.loop-offence.first c.keep_first.new.first
     (kind_more ls c.requires.distinct os i o _ c.loop-offence-test.true refl c.unwrap-at.result at c.kind_number.result c.kind_number.ensures)
-    c.loop-offence.invariant c.in_ok-note.ensures
+    c.loop-offence.invariant c.in_ok-keep_first.ensures
 
 pub returns : goal.returns
 returns c =

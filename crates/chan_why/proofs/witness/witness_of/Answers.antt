@@ -6,10 +6,10 @@ use Rattle.chan_why.proofs.witness.witness_of.Goals as goal
 pub case_of-at-requires-clause-listed : goal.case_of-at-requires-clause-listed
 case_of-at-requires-clause-listed c = c.requires
 
-pub second_path-requires-clause-cause : goal.second_path-requires-clause-cause
-second_path-requires-clause-cause c =
-    let cause = (c.case_of-at.ensures.case c.requires.0 c.requires.1).cause in
-    (c.requires.0, c.requires.1, (cause.2.0, cause.2.3.1))
+pub second_path-requires-clause-shown : goal.second_path-requires-clause-shown
+second_path-requires-clause-shown c =
+    let shown = (c.case_of-at.ensures.case c.requires.0 c.requires.1).shows in
+    (c.requires.0, c.requires.1, (shown.2.0, shown.2.3.1))
 
 pub returns : goal.returns
 returns c j s =
@@ -23,5 +23,5 @@ returns c j s =
       evidence = case.evidence places (c.in_ok-places.ensures.path j s);
       stored = stored_told j o.place.address o.reason places c.in_ok-places.field-0.stored_by c.told_over.result
           (c.in_ok-places.ensures.stored j s) c.told_over.ensures.told c.told_over.ensures.other;
-      second = c.in_ok-second_path.ensures j s case.cause.2.0 case.cause.2.3.1;
+      second = c.in_ok-second_path.ensures j s case.shows.2.0 case.shows.2.3.1;
     }
