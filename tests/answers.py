@@ -118,7 +118,11 @@ def answer(action, given, name=None, is_among=False):
     text, status = text_by(action, deck, name), status_of(verdicts_of(deck.parent)[deck.name])
     if command == "needs":
         status = status_of_needs(text)
-        error = (f"{name}: " if is_among else "") + NO_JOB if status else ""
+        said = NO_JOB if status else ""
+        if status and action == "needs --deck":
+            said, text = text + said, ""
+        front = f"{name}: " if is_among else ""
+        error = "".join(f"{front}{line}" for line in said.splitlines(keepends=True))
     if command == "why":
         error = said_beside(deck, name or "", is_among)
     if command in ("verify", "why") and name is not None:

@@ -117,7 +117,7 @@ def check_numbers(checks):
 
 def check_usage(checks):
     """Each line of a command's usage is one of the usage of the program."""
-    source = text_of(ROOT / "crates/chan_args/src/lines.rt")
+    source = text_of(ROOT / "crates/chan_args/src/command_table.rt")
     usages = dict(re.findall(r'(?s)const (USAGE\w*): &str = "(.*?)";', source))
     lines = usages.pop("USAGE").split("\n       ")
     checks.expect("how many commands have a usage of their own", 6, len(usages))

@@ -168,11 +168,11 @@ def least_lines(deck, needed):
 
 
 def check_deck_of_needs(checks, program, path, ran):
-    """`needs --deck` writes the deck with the least job; if no job will do, what `needs` writes."""
+    """`needs --deck` writes the deck with the least job, or nothing if no job will do."""
     name, deck = short(path), text_of(path)
     made = run(program, "needs", "--deck", given=path)
     if ran.status != 0:
-        checks.expect(f"needs --deck: {name}", ran, made)
+        checks.expect(f"needs --deck: {name}", Ran(ran.status, "", ran.output + ran.error), made)
         return
     lines = [*least_lines(deck, ran.output.splitlines())]
     checks.expect(f"the lines of needs --deck: {name}", lines, made.output.splitlines())
@@ -186,10 +186,11 @@ def check_deck_of_needs(checks, program, path, ran):
 def check_several(checks, program):
     """Over several FILEs each deck comes under a line with its FILE; a limit makes version 2."""
     loop, changes = EXAMPLES / "search-loop.deck", EXAMPLES / "changes-itself.deck"
-    alone = [run(program, "needs", "--deck", deck) for deck in (loop, changes)]
-    text = "".join(f"{deck}:\n{ran.output}" for deck, ran in zip((loop, changes), alone))
+    text = f"{loop}:\n{run(program, 'needs', '--deck', loop).output}{changes}:\n"
+    why = run(program, "needs", changes).output + NO_JOB
+    error = "".join(f"{changes}: {line}" for line in why.splitlines(keepends=True))
     ran = run(program, "needs", loop, "--deck", changes)
-    checks.expect("needs --deck over two", Ran(1, text, f"{changes}: {NO_JOB}"), ran)
+    checks.expect("needs --deck over two", Ran(1, text, error), ran)
     two = text_of(loop).replace("deck 1", "deck 2")
     for limit, version in [("04096", 1), ("00003", 2), ("65536", 2)]:
         deck = two.replace("\nextent", f"\nlimit {limit}\nextent", 1)

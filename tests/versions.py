@@ -8,7 +8,7 @@ from running import text_of
 # each place, and the pattern whose groups are the numbers there, joined by dots
 PLACES = [
     ("CHANGELOG.md", r"(?m)^## (\d+\.\d+\.\d+)$"),
-    ("crates/chan_args/src/lines.rt", r'\.version\("(.*)"\)'),
+    ("crates/chan_args/src/command_table.rt", r'\.version\("(.*)"\)'),
     ("crates/chanv_c/include/chanv.h", r'#define CHANV_VERSION "(.*)"'),
     (
         "crates/chanv_c/include/chanv.h",

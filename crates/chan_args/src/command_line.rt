@@ -1,9 +1,9 @@
 //! The command line: which words ask for what.
 
 use crate::action::{Action, Explained};
+use crate::command_table::command;
 use crate::image_command::{ImageRequest, grant_fault, image_request};
 use crate::image_words::GrantFault;
-use crate::lines::command;
 use crate::words_met::{is_flagged, text_met, texts_met};
 use clap::error::ErrorKind;
 use clap::{ArgMatches, Error};

@@ -14,9 +14,9 @@
 
 mod action;
 mod command_line;
+mod command_table;
 mod image_command;
 mod image_words;
-mod lines;
 mod words_met;
 
 pub use crate::action::{Action, Explained};

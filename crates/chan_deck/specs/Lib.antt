@@ -12,3 +12,5 @@ pub mod Listing
 pub mod Explanation
 pub mod Graph
 pub mod Needs
+pub mod CauseWord
+pub mod ImageNote

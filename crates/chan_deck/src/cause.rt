@@ -1,5 +1,8 @@
 //! Why a line of a deck is refused.
 
+ghost use Rattle.std.specs.Prelude.{◌≡◌};
+ghost use Rattle.chan_deck.specs.CauseWord.{word_of_cause};
+
 /// Why a line of a deck is refused. The causes are tried in this order, and the first that applies
 /// is named; but after the line `end` only `After` applies.
 #[derive(Clone, Copy, PartialEq, Eq, Debug)]
@@ -27,4 +30,25 @@ pub enum Cause {
     After,
     /// The limit on places is 0 or above 65,536.
     Limit,
+}
+
+impl Cause {
+    /// The word of the cause, as a refused deck's line gives it.
+    pub fn word<'a>(self) -> &'a str
+        ensures { result.now ≡ word_of_cause self }
+    {
+        match self {
+            Cause::Ended => "ended",
+            Cause::Header => "header",
+            Cause::Form => "form",
+            Cause::Mask => "mask",
+            Cause::ExtentBackwards => "extent-backwards",
+            Cause::ExtentPastDevice => "extent-past-device",
+            Cause::Size => "size",
+            Cause::PutAddress => "put-address",
+            Cause::PutZero => "put-zero",
+            Cause::After => "after",
+            Cause::Limit => "limit",
+        }
+    }
 }

@@ -379,7 +379,7 @@ fn push_reason(
 }
 
 /// The offences of a place, each with its cause. Offences are in order of addresses.
-fn offences_of(
+fn offences_at(
     alloc: Global,
     picture: &Picture,
     place: Place,
@@ -424,7 +424,7 @@ fn push_box(
     } else {
         1
     };
-    let offences = offences_of(alloc, picture, place)?;
+    let offences = offences_at(alloc, picture, place)?;
     let colors = if !offences.is_empty() {
         " color=\"#B00000\" bgcolor=\"#FFE9E9\""
     } else if is_endless {
@@ -595,7 +595,7 @@ fn push_changes(
         return Ok(());
     };
     let mut last: Option<usize> = None;
-    for (_, cause) in &offences_of(alloc, picture, place)? {
+    for (_, cause) in &offences_at(alloc, picture, place)? {
         let Some(address) = changed_at(*cause) else {
             continue;
         };

@@ -42,7 +42,7 @@ fn is_second_header(item: Item) -> bool {
 }
 
 /// How many bytes storage has, if the item says so.
-fn size_of(item: Item) -> Option<u32> {
+fn storage_said(item: Item) -> Option<u32> {
     match item {
         Item::Storage(size) => Some(size),
         _ => None,
@@ -60,7 +60,7 @@ fn one_more(before: Before, item: Item) -> Before {
         },
         size: match before.size {
             Some(size) => Some(size),
-            None => size_of(item),
+            None => storage_said(item),
         },
     }
 }

@@ -44,7 +44,7 @@ pub(crate) struct Row<'a> {
 }
 
 /// Whether a transfer in channel stands at a place.
-fn is_transfer(look: &Look) -> bool {
+fn shows_transfer(look: &Look) -> bool {
     match look.ccw() {
         Some(ccw) => ccw.is_transfer(),
         None => false,
@@ -56,7 +56,7 @@ fn is_transfer(look: &Look) -> bool {
 fn is_passage(scene: Scene<'_>, at: usize) -> bool {
     match scene.looks.get(at) {
         Some(look) => {
-            is_transfer(look) && look.fault().is_none() && stored_at(scene, at).is_none()
+            shows_transfer(look) && look.fault().is_none() && stored_at(scene, at).is_none()
         }
         None => false,
     }
@@ -71,7 +71,7 @@ fn stored_at(scene: Scene<'_>, at: usize) -> Option<u32> {
 /// alone.
 fn are_twins(one: &Look, other: &Look) -> bool {
     let (place, twin) = (one.place(), other.place());
-    place.address == twin.address && place.entered == twin.entered && !is_transfer(one)
+    place.address == twin.address && place.entered == twin.entered && !shows_transfer(one)
 }
 
 /// The first of a place and its twin.
@@ -86,7 +86,7 @@ pub(crate) fn first_twin(looks: &[Look], at: usize) -> usize {
 /// The arrow to a place, if it was looked at.
 pub(crate) fn arrow_to(scene: Scene<'_>, place: Option<Place>) -> Option<Arrow> {
     let looks = scene.looks;
-    let at = index_of(looks, place?)?;
+    let at = look_index(looks, place?)?;
     let look = looks.get(at)?;
     if !is_passage(scene, at) {
         return Some(Arrow {
@@ -94,7 +94,7 @@ pub(crate) fn arrow_to(scene: Scene<'_>, place: Option<Place>) -> Option<Arrow> 
             through: None,
         });
     }
-    let target = index_of(looks, look.next().next?)?;
+    let target = look_index(looks, look.next().next?)?;
     Some(Arrow {
         to: first_twin(looks, target),
         through: Some(look.place().address),
@@ -102,7 +102,7 @@ pub(crate) fn arrow_to(scene: Scene<'_>, place: Option<Place>) -> Option<Arrow> 
 }
 
 /// The index of a place among those looked at, which are in order.
-fn index_of(looks: &[Look], place: Place) -> Option<usize> {
+fn look_index(looks: &[Look], place: Place) -> Option<usize> {
     let number = place.number();
     let at = looks.partition_point(|look| look.place().number() < number);
     match looks.get(at) {
@@ -248,7 +248,7 @@ impl Layout {
 }
 
 /// Counts an arrow for the row to which it leads.
-fn count(ways: &mut Vec<u32>, arrow: Option<Arrow>) {
+fn count_arrow(ways: &mut Vec<u32>, arrow: Option<Arrow>) {
     if let Some(arrow) = arrow {
         if arrow.to < ways.len() {
             ways[arrow.to] = ways[arrow.to].saturating_add(1);
@@ -260,11 +260,11 @@ fn count(ways: &mut Vec<u32>, arrow: Option<Arrow>) {
 fn ways_in(alloc: Global, first: Place, scene: Scene<'_>) -> Result<Vec<u32>, AllocError> {
     let mut ways = Vec::new(alloc);
     ways.resize(scene.looks.len(), 0)?;
-    count(&mut ways, arrow_to(scene, Some(first)));
+    count_arrow(&mut ways, arrow_to(scene, Some(first)));
     for at in 0..scene.looks.len() {
         if let Some(row) = row_at(scene, at) {
-            count(&mut ways, row.next);
-            count(&mut ways, row.skip);
+            count_arrow(&mut ways, row.next);
+            count_arrow(&mut ways, row.skip);
         }
     }
     Ok(ways)

@@ -1,4 +1,5 @@
-//! Decks: main storage and the job of a channel program, as one text.
+//! Decks, which are main storage and the job of a channel program as one text, and all other texts
+//! about a program.
 //!
 //! Each deck has exactly one text. A text that spells none is refused at its first wrong line, with
 //! the cause:
@@ -11,6 +12,7 @@
 //! ```
 #![tactic(auto)]
 
+mod beginning;
 mod cause;
 mod deck;
 mod digits;
@@ -19,7 +21,9 @@ mod evidence;
 mod explanation;
 mod graph;
 mod heading;
+mod help;
 mod hint;
+mod image_note;
 mod item;
 mod keyword;
 mod laws;
@@ -31,24 +35,35 @@ mod needs;
 mod notes;
 mod parts;
 mod reading;
+mod shape;
+mod spelled;
 mod spelling;
 mod storage;
 mod texts;
 mod version;
 mod wide;
+mod words;
 mod writing;
+mod wrong_image;
 
+pub use crate::beginning::image_notes;
 pub use crate::cause::Cause;
 pub use crate::deck::Deck;
 pub use crate::error::DeckError;
 pub use crate::explanation::{explanation_text, offence_text};
 pub use crate::graph::{Picture, graph_text};
+pub use crate::help::{help_text, unseen_note};
 pub use crate::hint::hint_text;
+pub use crate::image_note::{deck_note, find_note};
 pub use crate::listing::{ListError, ccw_line, listing_text, row_text, write_listing};
 pub use crate::needs::{in_six_digits, needs_text};
-pub use crate::notes::{exchange_note, notes_text, storage_note};
+pub use crate::notes::{absent_note, exchange_note, limit_note, notes_text, room_note};
 pub use crate::parts::{Parts, parts_text, place_image};
 pub use crate::reading::read_deck;
+pub use crate::shape::shape_of;
+pub use crate::spelled::spelled_text;
 pub use crate::texts::{program_text, verdict_text};
 pub use crate::wide::wide_listing;
+pub use crate::words::{WORDS, nearest_word, word_row};
 pub use crate::writing::write_deck;
+pub use crate::wrong_image::no_job_notes;

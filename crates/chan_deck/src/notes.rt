@@ -3,7 +3,7 @@
 use crate::listing::way_word;
 use crate::texts::{Address, Digits, Size};
 use ccw_core::{Area, Ccw, Storage};
-use chan_walk::{Place, Reason};
+use chan_walk::{Limit, Place, Reason};
 use chan_why::Notes;
 use std::alloc::{AllocError, Global};
 use std::fmt::Write;
@@ -195,7 +195,7 @@ pub fn notes_text(
 
 /// The note on an image of storage whose ends may be wrong: how long storage is, and which options
 /// say so. An error means that an allocation failed.
-pub fn storage_note(alloc: Global, size: u32) -> Result<String, AllocError> {
+pub(crate) fn storage_note(alloc: Global, size: u32) -> Result<String, AllocError> {
     let size = Size(size);
     format!(in alloc; "note: storage has {size}{STORAGE_ENDS}")
 }
@@ -208,4 +208,37 @@ pub fn exchange_note<'a>(reason: Reason) -> &'a str {
         Reason::StoreNotLent => LENT_FOR_FETCHING,
         _ => "",
     }
+}
+
+/// The note on an image that begins at `at` and ends past storage of `size` bytes: how much room
+/// there is. An error means that an allocation failed.
+pub fn room_note(alloc: Global, at: u32, size: u32) -> Result<String, AllocError> {
+    let begins = Address(at);
+    let all = Size(size);
+    match size.checked_sub(at) {
+        Some(room) => format!(in alloc;
+            "note: the image begins at {begins} and has more than {room:X} bytes, but storage has \
+             {all}\n"
+        ),
+        None => format!(in alloc;
+            "note: the image begins at {begins}, past storage of {all} bytes\n"
+        ),
+    }
+}
+
+/// The note that no offence is at an address. An error means that an allocation failed.
+pub fn absent_note(alloc: Global, address: u32) -> Result<String, AllocError> {
+    let address = Address(address);
+    format!(in alloc; "note: no offence at {address}\n")
+}
+
+/// What the limit on places is, and how it may be raised. An error means that an allocation failed.
+pub fn limit_note(alloc: Global, limit: Limit) -> Result<String, AllocError> {
+    let places = limit.get();
+    let how = if places == 65_536 {
+        ", and none is higher"
+    } else {
+        "; the line limit of a deck of version 2, or --limit of chanv deck, may raise it to 65536"
+    };
+    format!(in alloc; "the limit is {places}{how}\n")
 }

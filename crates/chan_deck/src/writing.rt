@@ -80,7 +80,7 @@ pub(crate) fn write_store(
 }
 
 /// The number that a doubleword is.
-fn number_of(word: &[u8]) -> u64
+fn doubleword_number(word: &[u8]) -> u64
     requires { length word.now ≡ 8 }
     ensures { to_be_bytes w64 result ≡ word.now }
 {
@@ -95,7 +95,7 @@ fn write_word(alloc: Global, out: &mut Vec<u8>, address: u32, word: &[u8]) -> Re
     ensures { OnOk result (out.new.items ≡ out.old.items
         ++ (if zeros word.now then [] else line (put address word.now) ++ 10 ∷ [])) }
 {
-    let number = number_of(word);
+    let number = doubleword_number(word);
     if number == 0 {
         return Ok(());
     }

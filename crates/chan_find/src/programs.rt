@@ -29,7 +29,7 @@ fn is_second_at(job: &Job, start: u32, place: Option<Place>) -> bool {
     }
 }
 
-/// Whether there is a plain place, and it or a successor holds a second CCW.
+/// Whether there is a plain place, and it holds a second CCW or, with a transfer, leads to one.
 fn has_second_from(job: &Job, start: u32, place: Option<Place>) -> bool {
     let Some(place) = place else {
         return false;
@@ -41,8 +41,7 @@ fn has_second_from(job: &Job, start: u32, place: Option<Place>) -> bool {
     if is_second(&look, start) {
         return true;
     }
-    let next = look.next();
-    is_second_at(job, start, next.next) || is_second_at(job, start, next.skip)
+    is_second_at(job, start, look.next().next)
 }
 
 /// Whether the CCW at an address, by two of its bytes alone, may be a plain start: its code is the

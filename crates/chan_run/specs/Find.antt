@@ -12,7 +12,7 @@ use Rattle.chan_walk.specs.Places.{HasMoreThan}
 use Rattle.chan_walk.specs.OpenJob.{IsOpenJob}
 use Rattle.chan_find.specs.Programs.{AreStarts}
 use Rattle.chan_run.specs.Image.{IsNoImage, IsProgramAt, IsWholeImage}
-use Rattle.chan_run.specs.ImageNote.{deck_note, find_note}
+use Rattle.chan_deck.specs.ImageNote.{deck_note, find_note}
 use Rattle.chan_run.specs.Output.{IsUnwritten}
 use Rattle.chan_run.specs.Response.{IsBareResponse, IsDelivered, IsResponseWithoutOutput}
 use Rattle.chan_run.specs.declared.failure.Failure.{Failure}

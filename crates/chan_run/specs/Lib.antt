@@ -2,13 +2,11 @@ pub mod Input
 pub mod Name
 pub mod Output
 pub mod Failure
-pub mod Terms
 pub mod Outcome
 pub mod Options
 pub mod OneCcw
 pub mod OptionValues
 pub mod Image
-pub mod ImageNote
 pub mod NoJob
 pub mod Advice
 pub mod MadeDeck

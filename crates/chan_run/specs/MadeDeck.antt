@@ -6,7 +6,7 @@ use Rattle.chan_run.specs.declared.outcome.Outcome.{Outcome}
 use Rattle.chan_run.specs.declared.outcome.Outcome.TheVariants.{Done, Failed, NoJob}
 use Rattle.chan_run.specs.declared.response.Response.{Response}
 use Rattle.chan_run.specs.Image.{IsDeckText, IsNoDeck, IsNoImage, IsWholeImage}
-use Rattle.chan_run.specs.ImageNote.{deck_note}
+use Rattle.chan_deck.specs.ImageNote.{deck_note}
 use Rattle.chan_run.specs.NoJob.{IsNoJobText}
 use Rattle.chan_run.specs.Response.{IsDelivered, IsResponseWithoutOutput, advice_in}
 

@@ -13,7 +13,7 @@ use Rattle.chan_run.specs.declared.outcome.Outcome.{Outcome}
 use Rattle.chan_run.specs.declared.outcome.Outcome.TheVariants.{Done, Denied, Refused}
 use Rattle.chan_run.specs.declared.outcome.Outcome.TheVariants.{NoJob, Unknown, Failed}
 use Rattle.chan_run.specs.Failure.{texts_of_failure}
-use Rattle.chan_run.specs.Terms.{word_of_cause}
+use Rattle.chan_deck.specs.CauseWord.{word_of_cause}
 use Rattle.chan_run.specs.Name.{name_before}
 
 -- what each answer is, as an outcome

@@ -117,12 +117,13 @@ abbrev pub IsNeedsText : Job → List ℕ → Type 0
 IsNeedsText j text =
     (n : Listed) × ((k : Job) → AreOfOneProgram k j → AreNeeds k n) × (text ≡ needs_text n)
 
--- what the job's program needs, or its deck with the least job; or where the verdict is no, the
--- explanation
+-- what the job's program needs, or where the verdict is no, the explanation; or its deck with the
+-- least job, and nothing if there is none
 abbrev pub IsNeeded : Bool → Job → Verdict → List ℕ → Type 0
 IsNeeded false j Yes text = IsNeedsText j text
 IsNeeded true j Yes text = IsLeastText j text
-IsNeeded deck j (No a r) text = IsExplained tells.First j (No a r) text
+IsNeeded false j (No a r) text = IsExplained tells.First j (No a r) text
+IsNeeded true j (No a r) text = text ≡ []
 
 -- what an action asks for of a job and its verdict: the verdict's line, the listing of the
 -- reachable places or a wide one, whose rows tests hold, the explanation, a picture, or what is

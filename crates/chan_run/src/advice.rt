@@ -6,11 +6,12 @@ ghost use Rattle.chan_walk.specs.JobSurvey.{IsSurvey};
 ghost use Rattle.chan_run.specs.Advice.{always_hints};
 ghost use Rattle.chan_run.specs.Response.{IsWantedAdvice, advice_in};
 
-use crate::explained::explained_offence;
-use crate::help::{help_text, unseen_note};
+use crate::explained::{explained_offence, first_explanation};
 use crate::name::{Naming, named};
 use chan_args::{Action, Explained};
-use chan_deck::{Cause, exchange_note, hint_text, notes_text};
+use chan_deck::{
+    Cause, absent_note, exchange_note, help_text, hint_text, limit_note, notes_text, unseen_note,
+};
 use chan_walk::{Entry, Job, Limit, Offence, Reason, Survey, Verdict};
 use chan_why::{Witness, hang_from, notes_from, offence_at, seems_exchanged};
 use std::alloc::{AllocError, Global};
@@ -57,17 +58,30 @@ pub(crate) fn limit_advice(
     if !action.is_why() {
         return Some(Vec::new(alloc));
     }
-    let text = limit_text(alloc, limit).ok()?;
-    fronted(alloc, naming, text.as_slice()).ok()
+    let text = limit_note(alloc, limit).ok()?;
+    fronted(alloc, naming, text.as_bytes()).ok()
 }
 
-/// The advice on what a program needs that was surveyed under its open job: a note if the verdict
-/// is no.
-pub(crate) fn needs_advice(alloc: Global, naming: Naming<'_>, verdict: Verdict) -> Option<Vec<u8>> {
-    match verdict {
-        Verdict::No { .. } => fronted(alloc, naming, NO_JOB.as_bytes()).ok(),
-        Verdict::Yes => Some(Vec::new(alloc)),
+/// The advice on what a program needs that was surveyed under its open job: if the verdict is no, a
+/// note, and before it the explanation, if the output is to be a deck.
+pub(crate) fn needs_advice(
+    alloc: Global,
+    naming: Naming<'_>,
+    deck: bool,
+    job: &Job,
+    survey: &Survey,
+) -> Option<Vec<u8>>
+    requires { IsSurvey job.now survey.now }
+{
+    let mut text = String::new(alloc);
+    if let Verdict::No { .. } = survey.verdict() {
+        if deck {
+            let why = first_explanation(alloc, job, survey).ok()?;
+            text.push_str(why.as_str()).ok()?;
+        }
+        text.push_str(NO_JOB).ok()?;
     }
+    fronted(alloc, naming, text.as_bytes()).ok()
 }
 
 /// A text with the name of one of several inputs before each line.
@@ -114,7 +128,7 @@ pub(crate) fn why_advice(
     requires { IsSurvey job.now survey.now }
 {
     let named = naming.name.is_some();
-    let mut text = absent_note(alloc, explained, survey).ok()?;
+    let mut text = absent_advice(alloc, explained, survey).ok()?;
     let said = job_advice(alloc, named, explained, job, survey, witness).ok()?;
     text.extend_from_slice(said.as_slice()).ok()?;
     fronted(alloc, naming, text.as_slice()).ok()
@@ -146,15 +160,15 @@ pub(crate) fn job_advice(
     }
 }
 
-/// The note that no offence is at the address that is asked about, if that is so. Tests hold it.
-fn absent_note(
+/// The note that no offence is at the address that is asked about, if that is so.
+fn absent_advice(
     alloc: Global,
     explained: Explained,
     survey: &Survey,
 ) -> Result<Vec<u8>, AllocError> {
     match explained {
         Explained::At(address) if offence_at(survey, address).is_none() => {
-            Ok(format!(in alloc; "note: no offence at {address:06X}\n")?.into_bytes())
+            Ok(absent_note(alloc, address)?.into_bytes())
         }
         _ => Ok(Vec::new(alloc)),
     }
@@ -209,15 +223,4 @@ fn is_chained_over(offences: &[Offence]) -> bool {
         [first, ..] => first.place.entered != Entry::Fresh && first.place.after_transfer,
         [] => false,
     }
-}
-
-/// What the limit on places is, and how it may be raised.
-fn limit_text(alloc: Global, limit: Limit) -> Result<Vec<u8>, AllocError> {
-    let places = limit.get();
-    let how = if places == 65_536 {
-        ", and none is higher"
-    } else {
-        "; the line limit of a deck of version 2, or --limit of chanv deck, may raise it to 65536"
-    };
-    Ok(format!(in alloc; "the limit is {places}{how}\n")?.into_bytes())
 }

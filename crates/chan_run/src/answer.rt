@@ -10,7 +10,7 @@ ghost use Rattle.chan_run.specs.Output.{IsNeeded};
 ghost use Rattle.chan_run.specs.Response.{IsActionAnswer, advice_in};
 
 use crate::advice::{job_advice, needs_advice, why_advice};
-use crate::explained::{explained_witness, why_text};
+use crate::explained::{explained_witness, first_explanation, why_text};
 use crate::least_job::least_deck_text;
 use crate::name::{Naming, heading_of};
 use crate::output::{Remarks, list_output, picture_output, text_after, verdict_output};
@@ -80,7 +80,7 @@ fn why_answer(
     })
 }
 
-/// What is needed, behind its heading.
+/// What is needed, under its heading.
 fn needs_answer(
     alloc: Global,
     naming: Naming<'_>,
@@ -97,22 +97,20 @@ fn needs_answer(
     output.extend_from_slice(needed.as_slice())?;
     Ok(Answer {
         output,
-        advice: needs_advice(alloc, naming, survey.verdict()),
+        advice: needs_advice(alloc, naming, deck, job, survey),
     })
 }
 
-/// What the program of a job needs that was surveyed, or the deck with its least job; where the
-/// verdict is no, its explanation.
+/// What the program of a job needs that was surveyed, or where the verdict is no, its explanation;
+/// or the deck with its least job, and nothing if there is none.
 fn needed_text(alloc: Global, deck: bool, job: &Job, survey: &Survey) -> Result<Vec<u8>, AllocError>
     requires { IsSurvey job.now survey.now }
     ensures { IfOk result (λ text. IsNeeded deck job.now
         (first_verdict survey.now.offences) text.items) }
 {
     match survey.verdict() {
-        Verdict::No { .. } => {
-            let witness = explained_witness(alloc, Explained::First, job, survey)?;
-            Ok(why_text(alloc, Explained::First, job, survey, &witness)?.into_bytes())
-        }
+        Verdict::No { .. } if deck => Ok(Vec::new(alloc)),
+        Verdict::No { .. } => Ok(first_explanation(alloc, job, survey)?.into_bytes()),
         Verdict::Yes => {
             let needs = needs_from(alloc, job, survey)?;
             if deck {

@@ -13,11 +13,9 @@ ghost use Rattle.chan_run.specs.declared.failure.Failure.TheVariants as failures
 ghost use Rattle.chan_run.specs.declared.outcome.Outcome.TheVariants.{Failed};
 ghost use Rattle.ccw_core.specs.declared.ccw.TheConstants.{STORAGE_LIMIT};
 
-use crate::beginning::image_notes;
 use crate::delivery::deliver;
 use crate::failure::Failure;
 use crate::image::{deck_text, read_image};
-use crate::image_note::deck_note;
 use crate::image_options::ImageOptions;
 use crate::least_job::NoLeastJob;
 use crate::name::Naming;
@@ -28,6 +26,7 @@ use crate::status::respond_to_input;
 use crate::texts::write_bytes;
 use ccw_core::Watched;
 use chan_args::Action;
+use chan_deck::{deck_note, image_notes, room_note};
 use std::alloc::{AllocError, Global};
 use std::io::{Read, Write};
 
@@ -130,36 +129,24 @@ fn respond_to_image_input<R: Read>(
         Err(failure) => Response {
             outcome: Outcome::Failed(failure),
             output: Vec::new(alloc),
-            advice: room_note(alloc, options, failure).ok(),
+            advice: room_advice(alloc, options, failure).ok(),
             note: "",
         },
     }
 }
 
-/// For an image that ends past storage, the note on how much room there is. Tests hold it.
-fn room_note(
+/// For an image that ends past storage, the note on how much room there is.
+fn room_advice(
     alloc: Global,
     options: &ImageOptions,
     failure: Failure,
 ) -> Result<Vec<u8>, AllocError> {
-    let (at, Some(size)) = (options.at, options.size) else {
-        return Ok(Vec::new(alloc));
-    };
-    if failure != Failure::ImagePastStorage {
-        return Ok(Vec::new(alloc));
+    match (failure, options.size) {
+        (Failure::ImagePastStorage, Some(size)) => {
+            Ok(room_note(alloc, options.at, size)?.into_bytes())
+        }
+        _ => Ok(Vec::new(alloc)),
     }
-    if at > size {
-        let text = format!(in alloc;
-            "note: the image begins at {at:06X}, past storage of {size:07X} bytes\n"
-        )?;
-        return Ok(text.into_bytes());
-    }
-    let room = size - at;
-    Ok(format!(in alloc;
-        "note: the image begins at {at:06X} and has more than {room:X} bytes, but storage has \
-         {size:07X}\n"
-    )?
-    .into_bytes())
 }
 
 /// Why no job will do for the program of an image, and the notes on the image.

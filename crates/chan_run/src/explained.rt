@@ -5,6 +5,7 @@ ghost use Rattle.chan_walk.specs.Argument.{Has};
 ghost use Rattle.chan_walk.specs.JobSurvey.{IsSurvey};
 ghost use Rattle.chan_walk.specs.Offence.{first_verdict};
 ghost use Rattle.chan_why.specs.Witness.{IsWitnessOf};
+ghost use Rattle.chan_args.specs.declared.action.Explained.TheVariants as tells;
 ghost use Rattle.chan_run.specs.Output.{IsExplained, requested_offence, shown_verdict};
 
 use chan_args::Explained;
@@ -68,6 +69,20 @@ pub(crate) fn why_text(
     }
     let evidence = explained_evidence(alloc, explained, job, survey)?;
     explanation_text(alloc, job, survey, witness, evidence.as_slice())
+}
+
+/// The explanation of the verdict on a job that was surveyed, by the witness of its first offence.
+pub(crate) fn first_explanation(
+    alloc: Global,
+    job: &Job,
+    survey: &Survey,
+) -> Result<String, AllocError>
+    requires { IsSurvey job.now survey.now }
+    ensures { IfOk result (λ text. IsExplained tells.First job.now
+        (first_verdict survey.now.offences) (string_bytes text)) }
+{
+    let witness = explained_witness(alloc, Explained::First, job, survey)?;
+    why_text(alloc, Explained::First, job, survey, &witness)
 }
 
 /// The evidence for all offences, or none, if it isn't asked for.

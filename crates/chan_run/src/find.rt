@@ -12,18 +12,15 @@ ghost use Rattle.chan_run.specs.declared.failure.Failure.TheVariants as failures
 ghost use Rattle.chan_run.specs.declared.outcome.Outcome.TheVariants.{Failed};
 ghost use Rattle.ccw_core.specs.declared.ccw.TheConstants.{STORAGE_LIMIT};
 
-use crate::beginning::image_notes;
 use crate::delivery::deliver;
 use crate::failure::Failure;
 use crate::image::read_image;
-use crate::image_note::{deck_note, find_note};
 use crate::image_options::ImageOptions;
 use crate::least_job::job_at;
 use crate::outcome::Outcome;
 use crate::response::Response;
-use crate::shape::shape_of;
 use ccw_core::{Storage, Watched, write_out};
-use chan_deck::{place_image, program_text};
+use chan_deck::{deck_note, find_note, image_notes, place_image, program_text, shape_of};
 use chan_find::program_starts;
 use chan_walk::{OpenJob, WalkError, survey};
 use std::alloc::{AllocError, Global};

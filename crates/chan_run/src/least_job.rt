@@ -113,7 +113,7 @@ pub(crate) fn least_deck_text(
     requires { (k : Job) → AreOfOneProgram k job.now → AreNeeds k (listed needs.now) }
     ensures { IfOk result (λ text. IsLeastText job.now text.items) }
 {
-    let Some(image) = whole(job.storage) else {
+    let Some(image) = all_bytes(job.storage) else {
         return Err(AllocError);
     };
     let parts = Parts {
@@ -132,7 +132,7 @@ pub(crate) fn least_deck_text(
 
 /// All bytes of storage; never `None`.
 #[tactic(auto, using(crate::proofs::LeastLemmas::whole_range))]
-fn whole<'a>(storage: Storage<'a>) -> Option<&'a [u8]>
+fn all_bytes<'a>(storage: Storage<'a>) -> Option<&'a [u8]>
     ensures { IfSome result (λ bytes. bytes.now ≡ bytes_held storage.entry) }
 {
     storage.range(0, storage.len())
@@ -170,7 +170,7 @@ fn needs_in(
         start: options.at,
         len: u32::try_from(given).unwrap_or(u32::MAX),
     };
-    needs_of(alloc, &job, read)
+    image_needs(alloc, &job, read)
 }
 
 /// The job of the program that begins at an address in storage, as the options have it.
@@ -191,7 +191,7 @@ pub(crate) fn job_at<'a>(options: &'a ImageOptions, storage: Storage<'a>, start:
 }
 
 /// What the program of a job needs; `read` is what was read of its image.
-fn needs_of(alloc: Global, job: &Job<'_>, read: Area) -> Result<Needs, NoLeastJob>
+fn image_needs(alloc: Global, job: &Job<'_>, read: Area) -> Result<Needs, NoLeastJob>
     ensures ok { IfOk result (λ n. (j : Job) → AreOfOneProgram j job.now
         → AreNeeds j (listed n)) }
     ensures err { IfErr result (λ e. (o : ImageOptions) (image : List ℕ)

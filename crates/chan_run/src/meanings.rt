@@ -5,10 +5,9 @@ ghost use Rattle.chan_run.specs.Outcome.{IsWriteFailure};
 
 use crate::failure::Failure;
 use crate::outcome::Outcome;
-use crate::spelled::spelled_text;
 use crate::texts::write_texts;
-use crate::words::{WORDS, nearest_word, row_of};
 use ccw_core::{Watched, write_out};
+use chan_deck::{WORDS, nearest_word, spelled_text, word_row};
 use std::alloc::{AllocError, Global};
 use std::io::Write;
 
@@ -23,7 +22,7 @@ pub fn explain_word<W: Write>(alloc: Global, word: &str, to: &mut Watched<W>) ->
     requires { to.old.failed ≡ false }
     ensures write { IsWriteFailure result ↔ (to.new.failed ≡ true) }
 {
-    if let Some(row) = row_of(word) {
+    if let Some(row) = word_row(word) {
         let meaning = match row.split_once("\n") {
             Some((_, lines)) => lines,
             None => row,

@@ -30,7 +30,7 @@ fn without_blanks(alloc: Global, text: &[u8]) -> Result<Vec<u8>, AllocError>
 }
 
 /// Whether a text begins with `0x` or `0X`.
-fn is_marked(text: &[u8]) -> bool
+fn begins_with_0x(text: &[u8]) -> bool
     ensures marked { result ≡ (starts_with nat_eq text.now (codes "0x")
         || starts_with nat_eq text.now (codes "0X")) }
     ensures long { IsTrue result → 2 ≤ length text.now }
@@ -42,7 +42,11 @@ fn is_marked(text: &[u8]) -> bool
 fn digits_of(text: &[u8]) -> &[u8]
     ensures { result.now ≡ digits_in text.now }
 {
-    if is_marked(text) { &text[2..] } else { text }
+    if begins_with_0x(text) {
+        &text[2..]
+    } else {
+        text
+    }
 }
 
 /// Why digits aren't those of a CCW: the first that is none, or how many there are. Tests hold the

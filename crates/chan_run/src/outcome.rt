@@ -12,7 +12,6 @@ ghost use Rattle.chan_run.specs.declared.outcome.Outcome.TheVariants.{Done, Fail
 use crate::failure::Failure;
 use crate::name::named;
 use crate::one_ccw::ShowError;
-use crate::terms::cause_word;
 use crate::texts::write_texts;
 use ccw_core::{DeviceFault, Watched};
 use chan_deck::Cause;
@@ -190,7 +189,7 @@ fn write_refusal<W: Write>(
             "deck line ",
             number,
             ": ",
-            cause_word(cause),
+            cause.word(),
             "\n",
         ],
         to,

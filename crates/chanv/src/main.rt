@@ -50,7 +50,7 @@ struct Words {
 impl Words {
     /// The number of the first word that is shown so, from this number on; none is shown like
     /// another. Without one, how many words there are.
-    fn number_of(&self, from: usize, name: &str) -> usize {
+    fn first_shown_as(&self, from: usize, name: &str) -> usize {
         for number in from..self.shown.len() {
             if self.shown[number].as_str() == name {
                 return number;
@@ -197,7 +197,7 @@ fn show_ccw(rt: &HostRuntime, text: &str) -> u8 {
 /// Explains a word whose parts stand with a space between two.
 fn explain(rt: &HostRuntime, parts: &[&str]) -> u8 {
     let mut output = Watched::new(rt.stdout());
-    let answer = match joined(rt, parts) {
+    let answer = match spaced(rt, parts) {
         Ok(word) => explain_word(rt.alloc(), word.as_str(), &mut output),
         Err(AllocError) => Outcome::Failed(Failure::OutOfMemory),
     };
@@ -205,7 +205,7 @@ fn explain(rt: &HostRuntime, parts: &[&str]) -> u8 {
 }
 
 /// Some texts with a space between two.
-fn joined(rt: &HostRuntime, parts: &[&str]) -> Result<String, AllocError> {
+fn spaced(rt: &HostRuntime, parts: &[&str]) -> Result<String, AllocError> {
     let mut text = String::new(rt.alloc());
     for (k, part) in parts.iter().enumerate() {
         if k > 0 {
@@ -245,7 +245,7 @@ fn run_over_each(rt: &HostRuntime, words: &Words, action: Action, names: &[&str]
             name: Some(name),
             is_among: names.len() > 1,
         };
-        number = words.number_of(number, name);
+        number = words.first_shown_as(number, name);
         let input = open_input(rt, words, number, name);
         let outcome = run_over_opened(rt, action, naming, input);
         greatest = greater_status(greatest, exit_status(outcome));
@@ -300,12 +300,12 @@ fn open_file(rt: &HostRuntime, words: &Words, number: usize) -> Result<File, Out
     };
     match File::open(rt, path) {
         Ok(file) => no_folder(file),
-        Err(error) => Err(Outcome::Failed(fault_of(error.kind()))),
+        Err(error) => Err(Outcome::Failed(failure_of(error.kind()))),
     }
 }
 
 /// Why a file can't be opened or read, as far as the system tells.
-fn fault_of(kind: io::ErrorKind) -> Failure {
+fn failure_of(kind: io::ErrorKind) -> Failure {
     match kind {
         io::ErrorKind::NotFound => Failure::NoSuchFile,
         io::ErrorKind::PermissionDenied => Failure::PermissionDenied,
@@ -327,7 +327,7 @@ fn no_folder(file: File) -> Result<File, Outcome> {
 
 /// Whether a word that is shown so is the name of a file that can be read.
 fn is_file(rt: &HostRuntime, words: &Words, shown: &str) -> bool {
-    match open_file(rt, words, words.number_of(0, shown)) {
+    match open_file(rt, words, words.first_shown_as(0, shown)) {
         Ok(file) => {
             let mut file = file;
             file.read(&mut [0]).is_ok()
@@ -374,7 +374,7 @@ fn carry_out_request(
     }
     match request.file {
         None => carry_out_over(rt, None, &options, finds, Input::Standard(rt.stdin())),
-        Some(name) => match open_file(rt, words, words.number_of(0, name)) {
+        Some(name) => match open_file(rt, words, words.first_shown_as(0, name)) {
             Ok(file) => carry_out_over(rt, Some(name), &options, finds, Input::File(file)),
             Err(outcome) => report_on(rt, Some(name), outcome),
         },

@@ -7,7 +7,7 @@ ghost use Rattle.chanv_c.specs.declared.codes.TheConstants.{MEMORY, NO_ROOM, NOT
 ghost use Rattle.chanv_c.specs.declared.codes.TheConstants.{STORAGE_TOO_LARGE};
 
 use crate::codes::{MEMORY, NO_ROOM, NOT_A_DEVICE, STORAGE_TOO_LARGE, YES};
-use crate::job::device_of;
+use crate::job::numbered_device;
 use crate::writing::write_list;
 use ccw_core::Storage;
 use chan_find::program_starts;
@@ -51,7 +51,7 @@ pub extern "C" fn chanv_find(
     let Ok(storage) = Storage::new(or_empty(storage.bytes)) else {
         return STORAGE_TOO_LARGE;
     };
-    let Some(device) = device_of(device) else {
+    let Some(device) = numbered_device(device) else {
         return NOT_A_DEVICE;
     };
     let Ok(found) = program_starts(alloc, &storage, device) else {

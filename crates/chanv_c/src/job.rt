@@ -41,7 +41,7 @@ struct JobParts<'a> {
 }
 
 /// The device with this number.
-pub(crate) fn device_of(number: u16) -> Option<Device>
+pub(crate) fn numbered_device(number: u16) -> Option<Device>
     ensures { MatchOption result
         ((number ≢ 2311) × (number ≢ 2314))
         (λ device. device_number device ≡ number) }
@@ -64,7 +64,7 @@ fn parts_of<'a>(asked: &CJob<'a>) -> Result<JobParts<'a>, JobFault>
     let Ok(storage) = Storage::new(or_empty(asked.storage)) else {
         return Err(JobFault::StorageTooLarge);
     };
-    let Some(device) = device_of(asked.device) else {
+    let Some(device) = numbered_device(asked.device) else {
         return Err(JobFault::NotADevice);
     };
     let Some(mask) = FileMask::new(asked.mask) else {

@@ -34,7 +34,7 @@ pub extern "C" fn chanv_list(
     ensures no_extent { (result < STORAGE_TOO_LARGE) ⊎ (result ≡ NO_ROOM) → extent.new ≡ 0 }
 {
     (*count, *extent) = (0, 0);
-    match places_of(alloc, job) {
+    match reachable_places(alloc, job) {
         Ok(found) => {
             *count = found.len();
             if room.len() < found.len() {
@@ -51,7 +51,7 @@ pub extern "C" fn chanv_list(
 }
 
 /// The places that the program can reach.
-fn places_of(alloc: Global, asked: &CJob<'_>) -> Result<Explored, Refusal>
+fn reachable_places(alloc: Global, asked: &CJob<'_>) -> Result<Explored, Refusal>
     ensures answer { IfOk result (AreJobPlaces asked.now) }
     ensures right { OnOk result (HasNoFault asked.now) }
     ensures refusal { IfErr result (IsRefusal (HasTooMany asked.now) asked.now) }

@@ -70,9 +70,8 @@ pub(crate) enum FoundNeeds {
 /// job, and `MEMORY` comes too if the copy isn't as long as storage. All else is written as 0. The
 /// lists and `kept` are written only for `YES`. The job's own grants don't matter.
 ///
-/// A first look at storage only says which bytes to copy. The call reads each of these bytes once
-/// more, and judges the copy, which nothing else writes. Before the call the copy may hold
-/// anything.
+/// A first look at storage only says which bytes to copy. The call copies them, and judges what the
+/// copy then holds, which nothing else writes. Before the call the copy may hold anything.
 #[unsafe(no_mangle)]
 pub extern "C" fn needs_by_copy(
     alloc: Global,
@@ -125,9 +124,9 @@ pub extern "C" fn needs_by_copy(
     )
 }
 
-/// Copies the bytes of the job's storage in these areas to their addresses in the copy, each by one
-/// look; false if the copy isn't as long as storage. The contract promises nothing about the bytes:
-/// storage may be written meanwhile.
+/// Copies the bytes of the job's storage in these areas to their addresses in the copy; false if
+/// the copy isn't as long as storage. The contract promises nothing about the bytes: storage may be
+/// written meanwhile.
 fn copy_areas(job: &CJob<'_>, areas: &[Area], copy: &mut [u8]) -> bool
     ensures { IsTrue result → length copy.new ≡ length job.now.storage.now }
 {
@@ -200,7 +199,7 @@ fn needs_over(
     write_list(needs.fetch.as_slice(), fetch);
     write_list(needs.store.as_slice(), store);
     write_list(needs.keep.as_slice(), keep);
-    write_kept(still, needs.keep.as_slice(), kept);
+    copy_kept_bytes(still, needs.keep.as_slice(), kept);
     YES
 }
 
@@ -280,7 +279,7 @@ fn have_room(
 }
 
 /// Writes the bytes of storage in these areas, and leaves the rest of the room as it is.
-fn write_kept(asked: &CJob<'_>, keep: &[Area], kept: &mut [u8])
+fn copy_kept_bytes(asked: &CJob<'_>, keep: &[Area], kept: &mut [u8])
     requires right { HasNoFault asked.now }
     requires inside { All (IsInside asked.now.storage.now) keep.now }
     requires room { total_len keep.now ≤ length kept.old }

@@ -4,11 +4,11 @@ use Rattle.std.proofs.lemmas.List.{take_all}
 use Rattle.chan_run.specs.Options.{digits_in}
 use Rattle.chan_run.proofs.named_ccw.digits_of.Goals as goal
 
-pub returns-then-is_marked : goal.returns-then-is_marked
+pub returns-then-begins_with_0x : goal.returns-then-begins_with_0x
 unfolding digits_in
-returns-then-is_marked c =
-    take_all _ _ (search rules) ∙ sym (cond-true _ _ _ (sym c.is_marked.ensures.marked ∙ c.if-is_marked.true))
+returns-then-begins_with_0x c =
+    take_all _ _ (search rules) ∙ sym (cond-true _ _ _ (sym c.begins_with_0x.ensures.marked ∙ c.if-begins_with_0x.true))
 
-pub returns-else-is_marked : goal.returns-else-is_marked
+pub returns-else-begins_with_0x : goal.returns-else-begins_with_0x
 unfolding digits_in
-returns-else-is_marked c = sym (cond-false _ _ _ (sym c.is_marked.ensures.marked ∙ c.if-is_marked.false))
+returns-else-begins_with_0x c = sym (cond-false _ _ _ (sym c.begins_with_0x.ensures.marked ∙ c.if-begins_with_0x.false))

@@ -30,8 +30,8 @@ returns-then-not-have_room-clause-room c = λ _. record {
 pub returns-clause-yes : goal.returns-clause-yes
 returns-clause-yes c = λ _.
     let needs = subst (IsFoundNeeds c.args.still.now) c.in-Ok-Needed.field-0-is c.in-Ok-Needed.ensures.answer in
-    let held = subst (λ (l : List Area). HoldsAreas c.args.still.now.storage.now l c.write_kept.new.kept)
-    c.as_slice-6.ensures.value c.write_kept.ensures.held in
+    let held = subst (λ (l : List Area). HoldsAreas c.args.still.now.storage.now l c.copy_kept_bytes.new.kept)
+    c.as_slice-6.ensures.value c.copy_kept_bytes.ensures.held in
     record {
       needs = listed c.in-Ok-Needed.needs;
       hang = c.in-Ok-Needed.hang;
@@ -41,21 +41,21 @@ returns-clause-yes c = λ _.
       fetch = subst (λ (l : List Area). StandFirst l c.args.fetch.now c.write_list-2.new.room) c.as_slice-3.ensures.value c.write_list-2.ensures;
       store = subst (λ (l : List Area). StandFirst l c.args.store.now c.write_list-3.new.room) c.as_slice-4.ensures.value c.write_list-3.ensures;
       keep = subst (λ (l : List Area). StandFirst l c.args.keep.now c.write_list-4.new.room) c.as_slice-5.ensures.value c.write_list-4.ensures;
-      kept = subst (λ (l : List Area). StandFirst (bytes_in c.args.still.now.storage.now l) c.args.kept.now c.write_kept.new.kept)
-          c.as_slice-6.ensures.value c.write_kept.ensures.copied;
+      kept = subst (λ (l : List Area). StandFirst (bytes_in c.args.still.now.storage.now l) c.args.kept.now c.copy_kept_bytes.new.kept)
+          c.as_slice-6.ensures.value c.copy_kept_bytes.ensures.copied;
       held = held;
-      stays = where_held c.args.still.now (listed c.in-Ok-Needed.needs) c.in-Ok-Needed.hang c.write_kept.new.kept needs held;
+      stays = where_held c.args.still.now (listed c.in-Ok-Needed.needs) c.in-Ok-Needed.hang c.copy_kept_bytes.new.kept needs held;
     }
 
-pub write_kept-requires-clause-inside : goal.write_kept-requires-clause-inside
-write_kept-requires-clause-inside c =
+pub copy_kept_bytes-requires-clause-inside : goal.copy_kept_bytes-requires-clause-inside
+copy_kept_bytes-requires-clause-inside c =
     let found = subst (IsFoundNeeds c.args.still.now) c.in-Ok-Needed.field-0-is c.in-Ok-Needed.ensures.answer in
     let opened = found.judged.is_open in
     let inside = keep_inside opened.job (listed c.in-Ok-Needed.needs) found.needs in
     let asked = subst (λ (s : List ℕ). All (IsInside s) c.in-Ok-Needed.needs.keep.items) opened.asked.storage inside in
     subst (λ (l : List Area). All (IsInside c.args.still.now.storage.now) l) (sym c.as_slice-6.ensures.value) asked
 
-pub write_kept-requires-clause-room : goal.write_kept-requires-clause-room
-write_kept-requires-clause-room c =
+pub copy_kept_bytes-requires-clause-room : goal.copy_kept_bytes-requires-clause-room
+copy_kept_bytes-requires-clause-room c =
     let room = c.have_room.ensures.0 c.if-not-have_room.false in
     subst (λ (l : List Area). total_len l ≤ length c.args.kept.now) (sym c.as_slice-6.ensures.value) room.kept

@@ -3,7 +3,7 @@ use Rattle.std.proofs.Common.{◌≤◌, ℕ, ap, Err, length, subst}
 use Rattle.chan_walk.specs.Places.{HasMoreThan}
 use Rattle.chanv_c.specs.Answers.{HasTooMany}
 use Rattle.chanv_c.proofs.Refusals.{walk_refused}
-use Rattle.chanv_c.proofs.list.places_of.Goals as goal
+use Rattle.chanv_c.proofs.list.reachable_places.Goals as goal
 
 pub returns-in_err-explore-clause-refusal : goal.returns-in_err-explore-clause-refusal
 returns-in_err-explore-clause-refusal c =

@@ -11,8 +11,8 @@ use std::fmt::Write as _;
 const MOST_NAMES: usize = 4;
 
 /// How many CCWs a program has that was surveyed, and the names of its first commands, in the order
-/// in which the program comes to them, behind a space.
-pub(crate) fn shape_of(alloc: Global, survey: Survey) -> Result<String, AllocError>
+/// in which the program comes to them, after a space. An error means that an allocation failed.
+pub fn shape_of(alloc: Global, survey: Survey) -> Result<String, AllocError>
     requires { (j : Job) × IsSurvey j survey }
 {
     let names = first_names(alloc, survey.looks())?;
@@ -28,7 +28,7 @@ pub(crate) fn shape_of(alloc: Global, survey: Survey) -> Result<String, AllocErr
     format!(in alloc; " {ccws} {noun}{names}")
 }
 
-/// The names of the first commands, each behind a comma, the first behind a colon.
+/// The names of the first commands, each after a comma, the first after a colon.
 fn first_names(alloc: Global, looks: &[Look]) -> Result<String, AllocError> {
     let mut names = String::new(alloc);
     let mut named: Vec<u32> = Vec::new(alloc);

@@ -1,4 +1,4 @@
-//! How to cure a no: the lines of help behind its explanation. Tests hold the texts.
+//! How to cure a no: the lines of help after its explanation. Tests hold the texts.
 
 use ccw_core::Area;
 use chan_walk::{Entry, Evidence, Job, Outside, Place, Reason, Survey};
@@ -8,8 +8,9 @@ use std::alloc::{AllocError, Global};
 use std::fmt::Write as _;
 
 /// The lines of help on an offence with this witness and this reason: the line of a deck that cures
-/// it, or what to change in the program, and which word to look up.
-pub(crate) fn help_text(
+/// it, or what to change in the program, and which word to look up. An error means that an
+/// allocation failed.
+pub fn help_text(
     alloc: Global,
     job: &Job,
     witness: &Witness,
@@ -25,8 +26,8 @@ pub(crate) fn help_text(
 /// Adds how to cure the cause of a witness, by a line of a deck or by a change of the program.
 fn push_cure(out: &mut String, job: &Job, witness: &Witness) -> Result<(), AllocError> {
     match witness.evidence {
-        Some(Evidence::StoreNotLent { data, .. }) => push_area(out, "store", data),
-        Some(Evidence::FetchNotLent { data, .. }) => push_area(out, "fetch", data),
+        Some(Evidence::StoreNotLent { data, .. }) => push_lending(out, "store", data),
+        Some(Evidence::FetchNotLent { data, .. }) => push_lending(out, "fetch", data),
         Some(Evidence::SeekOutside { outside, .. }) => push_extent(out, job.device, outside),
         Some(Evidence::Inhibited { mask, code }) => match lookup(code) {
             Some(command) => push_command(out, mask, command),
@@ -55,7 +56,7 @@ fn push_cure(out: &mut String, job: &Job, witness: &Witness) -> Result<(), Alloc
 }
 
 /// Adds that an area is lent with a line of a deck.
-fn push_area(out: &mut String, keyword: &str, data: Area) -> Result<(), AllocError> {
+fn push_lending(out: &mut String, keyword: &str, data: Area) -> Result<(), AllocError> {
     let (start, len) = (data.start, data.len);
     write!(
         out,
@@ -194,7 +195,7 @@ fn searches(place: Place, code: u8) -> bool {
 
 /// The note on a no beside which CCWs weren't looked at, because a CCW that leads to them has a
 /// fault.
-pub(crate) fn unseen_note(survey: &Survey) -> &'static str {
+pub fn unseen_note(survey: &Survey) -> &'static str {
     for look in survey.looks() {
         if let (Some(_), Some(ccw)) = (look.fault(), look.ccw()) {
             if ccw.chains_data() || ccw.chains_command() {

@@ -1,7 +1,7 @@
 //! The notes on an image of storage that is a deck, or that has no program.
 
 ghost use Rattle.std.specs.Prelude.{◌≡◌};
-ghost use Rattle.chan_run.specs.ImageNote as notes;
+ghost use Rattle.chan_deck.specs.ImageNote as notes;
 
 /// What a deck begins with, of either version.
 const DECK_FRONT: &str = "chanv deck ";
@@ -21,14 +21,14 @@ fn is_deck(image: &[u8]) -> bool
 }
 
 /// The note on an image that is a deck; on any other there is none.
-pub(crate) fn deck_note(image: &[u8]) -> &'static str
+pub fn deck_note(image: &[u8]) -> &'static str
     ensures { result.now ≡ notes.deck_note image.now }
 {
     if is_deck(image) { IS_DECK } else { "" }
 }
 
 /// The note on an image that was searched for programs, and that has some or none.
-pub(crate) fn find_note(image: &[u8], has_programs: bool) -> &'static str
+pub fn find_note(image: &[u8], has_programs: bool) -> &'static str
     ensures { result.now ≡ notes.find_note image.now has_programs }
 {
     if is_deck(image) || has_programs {

@@ -1,7 +1,7 @@
 -- The notes on an image of storage that is a deck, or that has no program.
 use Rattle.std.specs.Prelude.{ℕ, Bool, ◌||◌, List, [], if◌then◌else◌, nat_eq}
 use Rattle.std.specs.List.{starts_with}
-use Rattle.chan_run.specs.declared.image_note.TheConstants as texts
+use Rattle.chan_deck.specs.declared.image_note.TheConstants as texts
 
 -- an image begins as a deck does
 abbrev pub is_deck : List ℕ → Bool

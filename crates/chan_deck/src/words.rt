@@ -5,7 +5,7 @@ use strsim::levenshtein;
 
 /// A row for each word, in the order of the list. The row's first line is the word, a colon, a
 /// space, and what the word means in a few words. Further lines say it at length.
-pub(crate) const WORDS: [&'static str; 153] = [
+pub const WORDS: [&'static str; 153] = [
     "misaligned: a CCW at an address that isn't a multiple of 8
 The CCW's address isn't a multiple of 8, so there can be no CCW.
 Correct the start, or the transfer in channel that leads there: nothing else
@@ -317,7 +317,7 @@ chanv doesn't know this word.
 ];
 
 /// The word of a row.
-fn word_of(row: &'static str) -> &'static str {
+fn word_in(row: &'static str) -> &'static str {
     match row.split_once(": ") {
         Some((word, _)) => word,
         None => row,
@@ -325,9 +325,9 @@ fn word_of(row: &'static str) -> &'static str {
 }
 
 /// The row of a word, in upper or lower case.
-pub(crate) fn row_of(word: &str) -> Option<&'static str> {
+pub fn word_row(word: &str) -> Option<&'static str> {
     for row in &WORDS {
-        if word_of(row).eq_ignore_ascii_case(word) {
+        if word_in(row).eq_ignore_ascii_case(word) {
             return Some(*row);
         }
     }
@@ -335,13 +335,13 @@ pub(crate) fn row_of(word: &str) -> Option<&'static str> {
 }
 
 /// The word nearest to a text in any case: the first with the fewest edits, if there is at most one
-/// edit for three letters of the word.
-pub(crate) fn nearest_word(alloc: Global, text: &str) -> Result<Option<&'static str>, AllocError> {
+/// edit for three letters of the word. An error means that an allocation failed.
+pub fn nearest_word(alloc: Global, text: &str) -> Result<Option<&'static str>, AllocError> {
     let mut small = String::from_str(alloc, text)?;
     small.make_ascii_lowercase();
     let (mut nearest, mut fewest) = ("", usize::MAX);
     for row in &WORDS {
-        let word = word_of(row);
+        let word = word_in(row);
         let edits = levenshtein(alloc, small.as_str(), word)?;
         if fewest <= edits {
             continue;

@@ -7,8 +7,8 @@ use std::alloc::{AllocError, Global};
 use std::fmt::Write as _;
 
 /// The notes on an image that begins at this address: that it is text, and that its search loops
-/// fit if it begins at another address.
-pub(crate) fn image_notes(alloc: Global, at: u32, image: &[u8]) -> Result<Vec<u8>, AllocError> {
+/// fit if it begins at another address. An error means that an allocation failed.
+pub fn image_notes(alloc: Global, at: u32, image: &[u8]) -> Result<Vec<u8>, AllocError> {
     let mut text = String::from_str(alloc, text_note(image))?;
     let mut begins = beginnings(alloc, image)?;
     begins.sort_unstable();
@@ -59,7 +59,7 @@ fn beginnings(alloc: Global, image: &[u8]) -> Result<Vec<u32>, AllocError> {
     Ok(found)
 }
 
-/// Where the transfer leads that stands behind a search, if these bytes begin with the two.
+/// Where the transfer leads that follows a search, if these bytes begin with the two.
 fn loop_target(bytes: &[u8]) -> Option<u32> {
     let search = Ccw::from_bytes(bytes.first_chunk()?);
     let command = lookup(search.command())?;

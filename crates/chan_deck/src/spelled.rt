@@ -1,7 +1,7 @@
 //! What is said of a word that is a command code, as `07`, a file mask, as `mask 98`, or flags, as
 //! `-CL--0`.
 
-use crate::words::row_of;
+use crate::words::word_row;
 use ccw_core::Ccw;
 use ckd_core::{Command, FileMask, further_name, lookup};
 use hex::{FromHex, encode_upper};
@@ -10,15 +10,13 @@ use std::fmt::Write as _;
 
 /// Masks that inhibit only by the bits `18`, then masks that inhibit only by the bits `C0`:
 /// each with the bits, and with their digits in the mask.
-const MASKS: [(u8, &'static str, &'static str); 8] = [
-    (0xC0, "18", "00"),
+const MASKS: [(u8, &'static str, &'static str); 6] = [
     (0xC8, "18", "08"),
     (0xD0, "18", "10"),
     (0xD8, "18", "18"),
     (0x00, "C0", "00"),
     (0x40, "C0", "40"),
     (0x80, "C0", "80"),
-    (0xC0, "C0", "C0"),
 ];
 
 /// The letter of each flag, and what is said of the flag.
@@ -30,22 +28,23 @@ const FLAGS: [(u8, &'static str); 5] = [
     (b'P', "P program-controlled interruption"),
 ];
 
-/// The line on a word, if it is a command code, a file mask or flags. Tests hold the wording.
-pub(crate) fn spelled_text(alloc: Global, word: &str) -> Result<Option<String>, AllocError> {
+/// The line on a word, if it is a command code, a file mask or flags. Tests hold the wording. An
+/// error means that an allocation failed.
+pub fn spelled_text(alloc: Global, word: &str) -> Result<Option<String>, AllocError> {
     let Some(digits) = word.strip_prefix("mask ") else {
-        return match byte_of(word) {
+        return match spelled_byte(word) {
             Some(code) => Ok(Some(code_text(alloc, code)?)),
             None => flags_text(alloc, word),
         };
     };
-    match byte_of(digits) {
+    match spelled_byte(digits) {
         Some(byte) => Ok(Some(mask_text(alloc, byte)?)),
         None => Ok(None),
     }
 }
 
 /// The byte that two hexadecimal digits of either case spell.
-fn byte_of(digits: &str) -> Option<u8> {
+fn spelled_byte(digits: &str) -> Option<u8> {
     let bytes = <[u8; 1]>::from_hex(digits.as_bytes()).ok()?;
     Some(bytes[0])
 }
@@ -69,7 +68,7 @@ fn code_text(alloc: Global, code: u8) -> Result<String, AllocError> {
 
 /// The name of a command, and what the command does.
 fn action_of(name: &str) -> &'static str {
-    let row = row_of(name).unwrap_or("");
+    let row = word_row(name).unwrap_or("");
     match row.split_once(" (code") {
         Some((action, _)) => action,
         None => row,

@@ -6,7 +6,7 @@ use Rattle.ccw_core.specs.Held.{bytes_held}
 use Rattle.chan_needs.specs.Remembered.{IsInside, bytes_in}
 use Rattle.chan_needs.proofs.Inside.{total_copied}
 use Rattle.chanv_c.specs.declared.refusal.JobFault.TheVariants.{StorageTooLarge}
-use Rattle.chanv_c.proofs.needs.write_kept.Goals as goal
+use Rattle.chanv_c.proofs.needs.copy_kept_bytes.Goals as goal
 use Rattle.ccw_core.specs.declared.ccw.TheConstants.{STORAGE_LIMIT}
 
 at_most : (n m : ℕ) → (n < m → ⊥) → m ≤ n

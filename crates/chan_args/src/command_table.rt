@@ -26,7 +26,7 @@ pub(crate) type Word = (&'static str, Given, &'static str, &'static str);
 
 /// A command: its name, what help says of it, the text at the end of its help, its words and
 /// options, in the order of help, and its lines of `USAGE`, if it has options.
-pub(crate) type Line = (
+pub(crate) type CommandRow = (
     &'static str,
     &'static str,
     &'static str,
@@ -112,8 +112,8 @@ With several FILEs, each answer comes under a line `FILE:`. With --deck the
 output is a deck that grants exactly this, and chanv verify says yes to it.
 
 If no job will do, the output explains the no under the job that grants
-everything, and the exit status is 1. Otherwise the status is the same as for
-`chanv verify`; see its help.
+everything; with --deck standard error explains it. The exit status is then 1,
+and otherwise the same as for `chanv verify`; see its help.
 
 The deck's mask, extents and areas don't matter. Its limit counts places under
 the job that grants everything, so there may be too many for a deck that
@@ -295,7 +295,7 @@ const SHOWING: &[Word] = &[
 ];
 
 /// The commands, in the order of help.
-pub(crate) const LINES: &[Line] = &[
+pub(crate) const COMMANDS: &[CommandRow] = &[
     (
         "verify",
         "judges decks: may the program run? chanv alone judges standard input",
@@ -366,18 +366,18 @@ pub(crate) const LINES: &[Line] = &[
     ),
 ];
 
-/// The command line that the program takes. It isn't inlined, and nor is `line_command`, so that
+/// The command line that the program takes. It isn't inlined, and nor is `row_command`, so that
 /// what each takes of the stack is given back before the words are read.
 #[inline(never)]
 pub(crate) fn command<'a>(alloc: Global) -> Result<Command<'a>, AllocError> {
-    commands_over(alloc, LINES)
+    commands_over(alloc, COMMANDS)
 }
 
 /// The program with these commands.
-fn commands_over<'a>(alloc: Global, lines: &[Line]) -> Result<Command<'a>, AllocError> {
+fn commands_over<'a>(alloc: Global, rows: &[CommandRow]) -> Result<Command<'a>, AllocError> {
     let mut command = program(alloc);
-    for line in lines {
-        command = with_line(alloc, command, line);
+    for row in rows {
+        command = with_command(alloc, command, row);
     }
     command
 }
@@ -392,30 +392,30 @@ fn program<'a>(alloc: Global) -> Result<Command<'a>, AllocError> {
     )
 }
 
-/// Adds the command of a line.
+/// Adds the command of a row.
 #[inline(never)]
-fn with_line<'a>(
+fn with_command<'a>(
     alloc: Global,
     command: Result<Command<'a>, AllocError>,
-    line: &Line,
+    row: &CommandRow,
 ) -> Result<Command<'a>, AllocError> {
     let command = command?;
-    command.subcommand(line_command(alloc, line)?)
+    command.subcommand(row_command(alloc, row)?)
 }
 
-/// The command of a line.
+/// The command of a row.
 #[inline(never)]
-fn line_command<'a>(alloc: Global, line: &Line) -> Result<Command<'a>, AllocError> {
-    let mut command = Ok(titled(alloc, line));
-    for word in line.3 {
+fn row_command<'a>(alloc: Global, row: &CommandRow) -> Result<Command<'a>, AllocError> {
+    let mut command = Ok(titled(alloc, row));
+    for word in row.3 {
         command = with_word(alloc, command, word);
     }
     command
 }
 
-/// The command of a line without words.
-fn titled<'a>(alloc: Global, line: &Line) -> Command<'a> {
-    let (name, about, after_help, _, usage) = *line;
+/// The command of a row without words.
+fn titled<'a>(alloc: Global, row: &CommandRow) -> Command<'a> {
+    let (name, about, after_help, _, usage) = *row;
     let mut command = Command::new(alloc, name).about(about);
     if !after_help.is_empty() {
         command = command.after_help(after_help);

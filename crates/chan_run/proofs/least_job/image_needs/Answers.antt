@@ -5,7 +5,7 @@ use Rattle.chan_walk.specs.Offence.{first_verdict}
 use Rattle.chan_walk.specs.declared.verdict.Verdict.TheVariants.{No}
 use Rattle.chan_run.specs.NoJob.{IsExplainedOpenly}
 use Rattle.chan_run.proofs.LeastLemmas.{of_open_job}
-use Rattle.chan_run.proofs.least_job.needs_of.Goals as goal
+use Rattle.chan_run.proofs.least_job.image_needs.Goals as goal
 
 pub returns-in-Err-TooManyPlaces-clause-err : goal.returns-in-Err-TooManyPlaces-clause-err
 returns-in-Err-TooManyPlaces-clause-err c = λ o image there.
