@@ -53,8 +53,6 @@ MOST_STORAGE = 0x2000
 RUNS, LENGTH = 4, 30
 # of how many addresses of a job the offence is explained
 MOST_ASKED = 6
-# a CCW just past the largest storage offends, but an option takes six digits
-PAST_ADDRESSES = 0x1000000
 
 # `why --of` over each of some decks, after its address, and its status
 OF = 'while [ $# -gt 1 ]; do "$0" why --of "$1" "$2" 2>&1; echo "status $?"; shift 2; done'
@@ -161,7 +159,7 @@ def check_explained(checks, program, answers):
         if answer.is_too_large:
             continue
         addresses = sorted({place.address for place, _ in answer.found})
-        for address in [it for it in addresses if it < PAST_ADDRESSES][:MOST_ASKED]:
+        for address in sorted({*addresses[:MOST_ASKED], *addresses[-1:]}):
             asked.append((address, path))
             wanted.append([*lines_of_offence(answer, address)])
         others = {place.address for place in answer.faults} - {*addresses}

@@ -40,7 +40,6 @@ fn is_hexadecimal(option: ImageOption) -> bool {
             | ImageOption::Start
             | ImageOption::At
             | ImageOption::Storage
-            | ImageOption::Of
     )
 }
 
@@ -62,7 +61,7 @@ fn both_bases(option: ImageOption, text: &str) -> Option<(u32, u32)> {
 fn is_accepted(option: ImageOption, number: u32) -> bool {
     match option {
         ImageOption::Mask => number < 0x100 && FileMask::new(number as u8).is_some(),
-        ImageOption::Start | ImageOption::At | ImageOption::Of => number < STORAGE_LIMIT,
+        ImageOption::Start | ImageOption::At => number < STORAGE_LIMIT,
         ImageOption::Storage => number <= STORAGE_LIMIT && number % 8 == 0,
         _ => false,
     }

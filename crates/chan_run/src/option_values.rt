@@ -10,7 +10,8 @@ ghost use Rattle.chan_run.specs.Options.{IsSize, address_in, area_in, extent_in,
 ghost use Rattle.chan_run.specs.Options.{size_in};
 
 use crate::image_options::{ImageOptions, OptionError, OptionFault};
-use crate::options::{address_of, area_of, device_of, extent_of, limit_of, mask_of, size_of};
+use crate::options::{address_of, area_of, device_of, extent_of, hexadecimal_of, limit_of};
+use crate::options::{mask_of, size_of};
 use ccw_core::Area;
 use chan_args::{ImageOption, ImageWords};
 use chan_walk::Limit;
@@ -98,18 +99,17 @@ fn size_or_none<'a>(text: Option<&'a str>) -> Result<Option<u32>, OptionError<'a
     }
 }
 
+/// What the address of an offence is: it may be past storage, to which a chain may lead.
+const OFFENCE_FORM: &str = "a hexadecimal address, at most FFFFFFFF";
+
 /// The address of the offence that is asked about, or why its text isn't accepted.
-pub fn address_option(text: &str) -> Result<u32, OptionFault<'_>>
-    ensures ok { IfOk result (λ address. address_in text.entry.now ≡ Ok address) }
-    ensures err { IfErr result (λ fault. (fault.option ≡ options.Of) × (fault.text ≡ text.entry)
-        × (address_in text.entry.now ≡ Err fault.why.now)) }
-{
-    match address_of(text) {
-        Ok(address) => Ok(address),
-        Err(why) => Err(OptionFault {
+pub fn address_option(text: &str) -> Result<u32, OptionFault<'_>> {
+    match hexadecimal_of(text) {
+        Some(address) => Ok(address),
+        None => Err(OptionFault {
             option: ImageOption::Of,
             text,
-            why,
+            why: OFFENCE_FORM,
         }),
     }
 }

@@ -81,7 +81,7 @@ fn digits_of(text: &str) -> &str
 
 /// The hexadecimal number of a text: one digit or more, of either case, with `0x` or `0X` before
 /// them or without. There may be leading zeros, but no sign and no space.
-fn hexadecimal_of(text: &str) -> Option<u32>
+pub(crate) fn hexadecimal_of(text: &str) -> Option<u32>
     ensures { result ≡ hexadecimal_in text.now }
 {
     number_of(digits_of(text), 16)

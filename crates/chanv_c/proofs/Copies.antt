@@ -1,5 +1,7 @@
 -- What is found of a program over a copy of the bytes that it keeps.
-use Rattle.std.proofs.Common.{◌∙◌, ℕ, List, Option, ap, length, subst, sym}
+use Rattle.std.proofs.Common.{◌∙◌, ◌≡◌, ◌<◌, ◌+◌, ℕ, List, Option, ap, drop, get_or, length, refl, subst, sym}
+use Rattle.ccw_core.specs.declared.areas.Area.{Area}
+use Rattle.chan_needs.proofs.Holding.{nowhere, rest_of}
 use Rattle.chan_walk.specs.Job.{storage_of}
 use Rattle.chan_walk.specs.declared.place.Place.{Place}
 use Rattle.chan_needs.specs.Needs.{KeepsProgram}
@@ -8,7 +10,7 @@ use Rattle.chan_needs.specs.Listed.{Listed}
 use Rattle.chan_needs.proofs.Remembering.{same_device, same_held}
 use Rattle.chan_needs.proofs.Staying.{needs_stay}
 use Rattle.chanv_c.specs.declared.job.CJob.{CJob}
-use Rattle.chanv_c.specs.Needs.{AreNeedsOf, AreNeedsWhereHeld}
+use Rattle.chanv_c.specs.Needs.{AreNeedsOf, AreNeedsWhereHeld, AsksOverCopy, HasChangedMeanwhile, KeepsOtherAreas, with_area, with_areas}
 
 -- the needs over one storage are those over each that is as long and holds the kept bytes
 pub where_held : (c : CJob) (n : Listed) (hang : Option Place) (kept : List ℕ)
@@ -26,3 +28,35 @@ where_held c n hang kept h held k start device len holds =
       device = same_device j.device k.device (asked.device ∙ sym device);
     } in
     needs_stay j k n keeps h.needs
+
+-- ---- copying
+
+-- what is left to copy ends with all areas copied
+pub record AreCopied (s : List ℕ) (areas : List Area) (i : ℕ) (old new : List ℕ) : Type 0 where
+  pub same_length : length new ≡ length old
+  pub rest : with_areas s (drop i areas) new ≡ with_areas s areas old
+
+pub none_copied : (s : List ℕ) (areas : List Area) (old : List ℕ) → AreCopied s areas 0 old old
+none_copied s areas old = record { same_length = refl; rest = refl }
+
+pub one_more_copied : (s : List ℕ) (areas : List Area) (i : ℕ) (old now new : List ℕ) → i < length areas → AreCopied s areas i old now
+    → length new ≡ length now → new ≡ with_area s (get_or areas i nowhere) now → AreCopied s areas (i + 1) old new
+one_more_copied s areas i old now new within h len is = record {
+  same_length = len ∙ h.same_length;
+  rest =
+      ap (λ z. with_areas s (drop (i + 1) areas) z) is
+      ∙ ap (λ (z : List Area). with_areas s z now) (sym (rest_of areas i within))
+      ∙ h.rest;
+}
+
+pub changed_meanwhile : (c : CJob) (old new : List ℕ) (n : Listed) (hang : Option Place) (keep : List Area) {d : CJob} → AreNeedsOf c n hang
+    → keep ≡ n.keep → new ≡ with_areas c.storage.now keep old → KeepsOtherAreas d keep → AsksOverCopy c new d → HasChangedMeanwhile c old new
+changed_meanwhile c old new n hang keep {d = d} found same copied others over = record {
+  needs = n;
+  hang = hang;
+  found = found;
+  copied = subst (λ (l : List Area). new ≡ with_areas c.storage.now l old) same copied;
+  judged = d;
+  over = over;
+  others = subst (KeepsOtherAreas d) same others;
+}

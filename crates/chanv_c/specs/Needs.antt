@@ -1,6 +1,6 @@
 -- What the needs that C is told promise.
-use Rattle.std.specs.Prelude.{◌≡◌, ℕ, ◌≤◌, List, [], ◌∷◌, ◌++◌, drop, length, map, Option, None}
-use Rattle.std.specs.Prelude.{Some}
+use Rattle.std.specs.Prelude.{◌≡◌, ◌≢◌, ℕ, ◌+◌, ◌≤◌, ◌&&◌, nat_le, List, [], ◌∷◌, ◌++◌, drop, length}
+use Rattle.std.specs.Prelude.{if◌then◌else◌, map, Option, None, Some, take, ◌⊎◌}
 use Rattle.ccw_core.specs.declared.areas.Area.{Area}
 use Rattle.chan_walk.specs.declared.job.Job.{Job}
 use Rattle.chan_walk.specs.declared.place.Place.{Place}
@@ -21,6 +21,9 @@ use Rattle.chanv_c.specs.declared.needs.CNeeded.{CNeeded}
 use Rattle.chanv_c.specs.declared.needs.FoundNeeds.{FoundNeeds}
 use Rattle.chanv_c.specs.declared.needs.FoundNeeds.TheVariants as found
 use Rattle.chanv_c.specs.declared.verify.CVerdict.{CVerdict}
+use Rattle.chanv_c.specs.declared.refusal.Refusal.{Refusal}
+use Rattle.chanv_c.specs.declared.refusal.Refusal.TheVariants.{Memory}
+use Rattle.chanv_c.specs.Answers.{IsRefusal}
 use Rattle.chanv_c.specs.Job.{IsAskedJob}
 use Rattle.chanv_c.specs.Why.{verdict_for_c}
 
@@ -147,6 +150,37 @@ pub record AsksOverCopy (c : CJob) (copy : List ℕ) (d : CJob) : Type 0 where
   pub start : d.start ≡ c.start
   pub device : d.device ≡ c.device
   pub limit : d.limit ≡ c.limit
+
+-- the copy with the bytes of storage s in an area, if the area lies in both
+abbrev pub with_area : List ℕ → Area → List ℕ → List ℕ
+with_area s a copy =
+    if nat_le (a.start + a.len) (length s) && nat_le (a.start + a.len) (length copy)
+    then (take a.start copy ++ take a.len (drop a.start s)) ++ drop (a.start + a.len) copy
+    else copy
+
+-- the same for some areas, one after another
+abbrev pub with_areas : List ℕ → List Area → List ℕ → List ℕ
+with_areas s [] copy = copy
+with_areas s (a ∷ areas) copy = with_areas s areas (with_area s a copy)
+
+-- the program of c doesn't keep just these areas: it can't be judged, no job will do for it, or it
+-- keeps others
+abbrev pub KeepsOtherAreas : CJob → List Area → Type 0
+KeepsOtherAreas c areas =
+    ((e : Refusal) × (e ≢ Memory) × IsRefusal (HasTooManyOpenly c) c e)
+    ⊎ ((a : ℕ) × (r : Reason) × IsJudgedOpenly c (No a r))
+    ⊎ ((n : Listed) × (hang : Option Place) × AreNeedsOf c n hang × (n.keep ≢ areas))
+
+-- storage changed during the call: over a copy of what the program of c was found to keep, it keeps
+-- something else
+pub record HasChangedMeanwhile (c : CJob) (old new : List ℕ) : Type 0 where
+  pub needs : Listed
+  pub hang : Option Place
+  pub found : AreNeedsOf c needs hang
+  pub copied : new ≡ with_areas c.storage.now needs.keep old
+  pub judged : CJob
+  pub over : AsksOverCopy c new judged
+  pub others : KeepsOtherAreas judged needs.keep
 
 -- these are the needs over each storage that is as long and holds the bytes that were kept
 abbrev pub AreNeedsWhereHeld : CJob → Listed → List ℕ → Type 0

@@ -14,8 +14,10 @@ ghost use Rattle.chanv_c.specs.Job.{IsAskedJob};
 ghost use Rattle.chanv_c.specs.Faults.{HasNoFault};
 ghost use Rattle.chanv_c.specs.Needs.{AreWrittenNeeds, HasTooManyOpenly, HaveRoomForNeeds};
 ghost use Rattle.chanv_c.specs.Needs.{HaveTooLittleRoom, IsFoundNeeds, AsksOverCopy, IsWrittenNo};
+ghost use Rattle.chanv_c.specs.Needs.{HasChangedMeanwhile, KeepsOtherAreas, with_area, with_areas};
 ghost use Rattle.chanv_c.specs.Needs.{StandFirst, without_needs, needs_for_c};
 ghost use Rattle.chanv_c.specs.declared.job.CJob as asked;
+ghost use Rattle.chanv_c.specs.declared.refusal.Refusal.TheVariants.{Memory};
 ghost use Rattle.chanv_c.specs.declared.codes.TheConstants.{MEMORY, NO, NO_ROOM, YES};
 ghost use Rattle.chanv_c.specs.declared.codes.TheConstants.{CHANGED_MEANWHILE, TOO_MANY_PLACES};
 ghost use Rattle.chanv_c.specs.declared.codes.TheConstants.{STORAGE_TOO_LARGE};
@@ -92,6 +94,8 @@ pub extern "C" fn needs_by_copy(
         × HaveTooLittleRoom c out.new extents.old fetch.old store.old keep.old kept.old }
     ensures left { result ≢ YES → (extents.new ≡ extents.old) × (fetch.new ≡ fetch.old)
         × (store.new ≡ store.old) × (keep.new ≡ keep.old) × (kept.new ≡ kept.old) }
+    ensures changed { result ≡ CHANGED_MEANWHILE
+        → HasChangedMeanwhile job.now copy.old copy.new }
     ensures number { result ≢ CHANGED_MEANWHILE
         → IsAnswerCode (HasTooManyOpenly job.now) job.now result out.new.verdict.extent }
     ensures nothing { TOO_MANY_PLACES ≤ result → result ≢ NO_ROOM → out.new
@@ -125,10 +129,12 @@ pub extern "C" fn needs_by_copy(
 }
 
 /// Copies the bytes of the job's storage in these areas to their addresses in the copy; false if
-/// the copy isn't as long as storage. The contract promises nothing about the bytes: storage may be
-/// written meanwhile.
+/// the copy isn't as long as storage. In the proofs storage stays as it is; if it is written
+/// meanwhile, the copy may hold anything there.
 fn copy_areas(job: &CJob<'_>, areas: &[Area], copy: &mut [u8]) -> bool
-    ensures { IsTrue result → length copy.new ≡ length job.now.storage.now }
+    ensures length { IsTrue result → length copy.new ≡ length job.now.storage.now }
+    ensures copied { IsTrue result
+        → copy.new ≡ with_areas job.now.storage.now areas.now copy.old }
 {
     if copy.len() != job.storage.len() {
         return false;
@@ -141,12 +147,13 @@ fn copy_areas(job: &CJob<'_>, areas: &[Area], copy: &mut [u8]) -> bool
 
 /// Copies the bytes in an area to their addresses in the copy, if the area lies in both.
 fn copy_area(storage: &[u8], area: Area, copy: &mut [u8])
-    ensures { length copy.new ≡ length copy.old }
+    ensures length { length copy.new ≡ length copy.old }
+    ensures copied { copy.new ≡ with_area storage.now area copy.old }
 {
     let start = area.start as usize;
     let end = start + area.len as usize;
-    if let (Some(from), Some(to)) = (storage.get(start..end), copy.get_mut(start..end)) {
-        to.copy_from_slice(from);
+    if end <= storage.len() && end <= copy.len() {
+        copy[start..end].copy_from_slice(&storage[start..end]);
     }
 }
 
@@ -174,16 +181,17 @@ fn needs_over(
         ⊎ (result ≡ CHANGED_MEANWHILE) }
     ensures nothing { (result ≡ MEMORY) ⊎ (result ≡ CHANGED_MEANWHILE) → out.new
         ≡ without_needs (record { extent = 0; address = 0; reason = 0 }) }
+    ensures changed { result ≡ CHANGED_MEANWHILE → KeepsOtherAreas still.now copied.now }
 {
     let (needs, hang) = match needs_of(alloc, still) {
         Ok(FoundNeeds::Needed(needs, hang)) => (needs, hang),
-        Err(Refusal::Memory) => {
-            *out = without_needs(0, 0, 0);
-            return MEMORY;
-        }
-        _ => {
+        Ok(FoundNeeds::NoJob { .. }) => {
             *out = without_needs(0, 0, 0);
             return CHANGED_MEANWHILE;
+        }
+        Err(refusal) => {
+            *out = without_needs(0, 0, 0);
+            return code_over_copy(refusal);
         }
     };
     if needs.keep.as_slice() != copied {
@@ -201,6 +209,17 @@ fn needs_over(
     write_list(needs.keep.as_slice(), keep);
     copy_kept_bytes(still, needs.keep.as_slice(), kept);
     YES
+}
+
+/// The number of a refusal of a job that was judged over a copy: `MEMORY`, or that storage changed.
+fn code_over_copy(refusal: Refusal) -> u32
+    ensures { ((result ≡ MEMORY) × (refusal ≡ Memory))
+        ⊎ ((result ≡ CHANGED_MEANWHILE) × (refusal ≢ Memory)) }
+{
+    match refusal {
+        Refusal::Memory => MEMORY,
+        _ => CHANGED_MEANWHILE,
+    }
 }
 
 /// The answer without needs: all zeros except a verdict or the index of an extent.

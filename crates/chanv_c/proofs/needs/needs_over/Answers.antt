@@ -1,7 +1,8 @@
 -- What is told of needs, and that they are the needs wherever the kept bytes are held.
-use Rattle.std.proofs.Common.{◌≤◌, ◌≡◌, ◌∙◌, ℕ, List, [], ◌∷◌, ap, length, map, refl, subst, sym}
+use Rattle.std.proofs.Common.{◌≤◌, ◌≡◌, ◌∙◌, ℕ, List, [], ◌∷◌, ap, inr, length, map, refl, subst, sym, true}
 use Rattle.std.specs.List.{All}
 use Rattle.std.proofs.lemmas.Bool.{both_ways}
+use Rattle.chan_deck.specs.SameDecks.{same_areas, same_areas-IsEquivalence}
 use Rattle.ccw_core.specs.declared.areas.Area.{Area}
 use Rattle.chan_needs.specs.Remembered.{HoldsAreas, IsInside, bytes_in, total_len}
 use Rattle.chan_needs.proofs.Inside.{keep_inside}
@@ -59,3 +60,15 @@ pub copy_kept_bytes-requires-clause-room : goal.copy_kept_bytes-requires-clause-
 copy_kept_bytes-requires-clause-room c =
     let room = c.have_room.ensures.0 c.if-not-have_room.false in
     subst (λ (l : List Area). total_len l ≤ length c.args.kept.now) (sym c.as_slice-6.ensures.value) room.kept
+
+pub returns-then-ne-clause-changed : goal.returns-then-ne-clause-changed
+returns-then-ne-clause-changed c = λ _.
+    let found = subst (IsFoundNeeds c.args.still.now) c.in-Ok-Needed.field-0-is c.in-Ok-Needed.ensures.answer in
+    let now = c.as_slice.result.now in
+    let alike : same_areas now now ≡ true = same_areas-IsEquivalence.refl now in
+    inr (inr (
+      listed c.in-Ok-Needed.needs,
+      c.in-Ok-Needed.hang,
+      found,
+      λ same. both_ways _ (rw (subst (λ (l : List Area). same_areas now l ≡ true) (c.as_slice.ensures.value ∙ same) alike) at c.ne.ensures) c.if-ne.true,
+    ))
