@@ -1,6 +1,6 @@
 -- What the needs that C is told promise.
-use Rattle.std.specs.Prelude.{◌≡◌, ◌≢◌, ℕ, ◌+◌, ◌≤◌, ◌&&◌, nat_le, List, [], ◌∷◌, ◌++◌, drop, length}
-use Rattle.std.specs.Prelude.{if◌then◌else◌, map, Option, None, Some, take, ◌⊎◌}
+use Rattle.std.specs.Prelude.{◌≡◌, ◌≢◌, ℕ, ◌+◌, ◌≤◌, ◌&&◌, nat_le, List, [], ◌∷◌, ◌++◌, drop}
+use Rattle.std.specs.Prelude.{length, if◌then◌else◌, map, Option, None, Some, take, ◌⊎◌}
 use Rattle.ccw_core.specs.declared.areas.Area.{Area}
 use Rattle.chan_walk.specs.declared.job.Job.{Job}
 use Rattle.chan_walk.specs.declared.place.Place.{Place}
