@@ -11,7 +11,7 @@ from examples import EXAMPLES
 from pages import check_page
 
 PAGE = EXAMPLES / "assembler/README.md"
-ASSEMBLER = "s390x-linux-gnu-as"
+ASSEMBLER, LINKER = "s390x-linux-gnu-as", "s390x-linux-gnu-ld"
 
 
 def check(checks, built):

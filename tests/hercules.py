@@ -12,10 +12,10 @@ import shutil
 import tempfile
 from pathlib import Path
 
-from assembler import ASSEMBLER
+from assembler import ASSEMBLER, LINKER
 from building import FLAGS, HERE, compile_c, short
 from examples import EXAMPLES
-from running import run, text_of
+from running import Ran, run, text_of
 
 FOLDER = EXAMPLES / "hercules"
 SEEDS, STARTS = range(1, 9), 20000
@@ -32,6 +32,14 @@ CARELESS = [
     ("data chains", "else if (ccw[4] & 0x80)", "else if (0)"),
     ("scattered programs", "if (more)\n", "if (0)\n"),
 ]
+
+# the CCWs of demo.s by their addresses: a seek, a search for the home address, and a read of record
+# zero, with the flags of each; the search has two
+CCWS = {
+    0x800: "0700090040000006 3900090260000004 0800080800000000 1600090C20000010",
+    0x840: "0700090640000006 3900090860000004 0800084800000000 1600090C20000010",
+    0x880: "0700090040000006 3900090260000004 0800088800000000 16000FF820000010",
+}
 
 
 def compile_header(library, header, folder):
@@ -57,6 +65,23 @@ def check_header(checks, library, room):
         checks.expect_that(f"without {name} an answer is wrong", wrong, came)
 
 
+def check_demo(checks, room):
+    """The assembler makes of demo.s the CCWs that its lines say."""
+    if not shutil.which(ASSEMBLER):
+        checks.skip(short(FOLDER / "demo.s"), f"no {ASSEMBLER}")
+        return
+    assembled, linked = room / "demo.o", room / "demo.bin"
+    made = [
+        run(ASSEMBLER, "-m31", "-march=g5", "-o", assembled, FOLDER / "demo.s"),
+        run(LINKER, *"-m elf_s390 -Ttext 0 --oformat binary -o".split(), linked, assembled),
+    ]
+    checks.expect("demo.s is assembled and linked", [Ran(0), Ran(0)], made)
+    image = linked.read_bytes()
+    for address, ccws in CCWS.items():
+        found = image[address : address + 32].hex(" ", 8).upper()
+        checks.expect(f"the CCWs at {address:06X} of demo.s", ccws, found)
+
+
 def check_emulator(checks, library):
     tarball, script = os.environ.get("HERCULES_TARBALL"), FOLDER / "try.sh"
     missing = None if shutil.which(ASSEMBLER) else ASSEMBLER
@@ -72,4 +97,5 @@ def check(checks, built):
     library = built.library()
     with tempfile.TemporaryDirectory() as room:
         check_header(checks, library, Path(room))
+        check_demo(checks, Path(room))
     check_emulator(checks, library)

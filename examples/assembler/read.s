@@ -1,7 +1,7 @@
 # Reads one record of a disk: a seek, the usual search loop, and a read into a buffer.
 
         .macro  ccw code, address, flags, count
-        .long   (\code << 24) + \address, (\flags << 24) + \count
+        .long   (\code << 24) + \address, ((\flags) << 24) + \count
         .endm
 
         .equ    chain, 0x40             # chain command: another operation follows
@@ -17,7 +17,7 @@ buffer: .skip   80
 
         .balign 8
 _start: ccw     0x07, track, chain, 6           # Seek
-search: ccw     0x31, record, chain, 5          # Search Identifier Equal
+search: ccw     0x31, record, chain+any_length, 5       # Search Identifier Equal
         ccw     0x08, search, 0, 0              # not this record: try the next
         ccw     0x06, buffer, any_length, length        # Read Data
 

@@ -4,7 +4,7 @@
 # `changing` defined it changes a byte of it after each of them.
 
         .macro  ccw code, address, flags, count
-        .long   (\code << 24) + \address, (\flags << 24) + \count
+        .long   (\code << 24) + \address, ((\flags) << 24) + \count
         .endm
 
         .equ    chain, 0x40             # chain command
@@ -62,20 +62,20 @@ times:  .long   rounds
 
         .org    0x800                   # seek to cylinder 10, head 0, and read record zero
 good:   ccw     0x07, ten, chain, 6
-        ccw     0x39, ten + 2, chain, 4
+        ccw     0x39, ten + 2, chain+any_length, 4
         ccw     0x08, good + 8, 0, 0
         ccw     0x16, record, any_length, 16
 
         .org    0x840                   # the same on cylinder 20
 outside:
         ccw     0x07, twenty, chain, 6
-        ccw     0x39, twenty + 2, chain, 4
+        ccw     0x39, twenty + 2, chain+any_length, 4
         ccw     0x08, outside + 8, 0, 0
         ccw     0x16, record, any_length, 16
 
         .org    0x880                   # as the first, but it reads past the bytes that have key 8
 past:   ccw     0x07, ten, chain, 6
-        ccw     0x39, ten + 2, chain, 4
+        ccw     0x39, ten + 2, chain+any_length, 4
         ccw     0x08, past + 8, 0, 0
         ccw     0x16, 0xFF8, any_length, 16
 
