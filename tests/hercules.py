@@ -2,9 +2,10 @@
 
 The program of c/hercules.c starts random programs again and again, while storage and its keys
 change, and compares each answer with that of a question put anew to storage as it stands. A header
-that leaves something out has to give a wrong one. Whether Hercules itself comes to the ends that
-try.sh names is tried where the environment variable HERCULES_TARBALL says the path of its source
-and an assembler for System/390 is installed, and else left out, by its name.
+that leaves something out has to give a wrong one. The CCWs that the assembler makes of demo.s are
+compared with its lines. Whether Hercules itself comes to the ends that try.sh names is tried where
+the environment variable HERCULES_TARBALL says the path of its source. Both need an assembler for
+System/390, and what can't be tried is left out, by its name.
 """
 
 import os
