@@ -12,14 +12,13 @@ the same note. Last come images that are text.
 """
 
 import re
-import shutil
 import sys
 from random import Random
 
 from building import HERE
 from examples import SEARCH_LOOP, taken_apart
 from find import FITTING, LARGEST
-from running import Ran, run, text_of
+from running import run, text_of
 
 sys.path.insert(0, str(HERE / "model"))
 
@@ -27,10 +26,7 @@ from channel import CHAIN_COMMAND, CHAIN_DATA, COMMANDS, LOW_BITS, Ccw  # noqa: 
 
 SEED, IMAGES = 71, 300
 DEVICE = ["--device", "2314"]
-PLAIN, DUMP = (
-    "note: this is text in hexadecimal; xxd -r -p turns it into an image\n",
-    "note: this is a dump with addresses; xxd -r turns it into an image\n",
-)
+IS_TEXT = "note: this is text in hexadecimal; an image of storage is raw bytes\n"
 
 
 def ccw_of(word):
@@ -236,24 +232,25 @@ def check_decks(checks, program):
         checks.expect(f"deck {' '.join(words)}", (status, wanted), (ran.status, notes))
 
 
-def dump_of(image):
-    """As xxd writes it."""
-    for at in range(0, len(image), 16):
-        part = image[at : at + 16]
-        pairs = " ".join(part[it : it + 2].hex() for it in range(0, len(part), 2))
+def dump_of(image, mark, width, group, with_text):
+    """A dump with addresses, a mark after each, and so many bytes in a line and in a group."""
+    for at in range(0, len(image), width):
+        part = image[at : at + width]
         text = "".join(chr(byte) if 0x20 <= byte < 0x7F else "." for byte in part)
-        yield f"{at:08x}: {pairs:<39}  {text}\n"
+        yield f"{at:06x}{mark} {part.hex(' ', -group)}" + f"  {text}" * with_text + "\n"
 
 
 def check_texts(checks, program):
     image = taken_apart(text_of(SEARCH_LOOP))[1]
-    digits, dump = image.hex(), "".join(dump_of(image))
+    digits = image.hex()
     for name, text, note in [
-        ("digits", digits, PLAIN),
-        ("digits in capitals, with blanks and line ends", f"{digits[:9].upper()} \t\r\n00", PLAIN),
-        ("one digit", "0", PLAIN),
-        ("a dump", dump, DUMP),
-        ("a dump without its text", "00000000: 3100 0900\n", DUMP),
+        ("digits", digits, IS_TEXT),
+        ("digits in capitals, blanks and line ends", f"{digits[:9].upper()} \t\r\n00", IS_TEXT),
+        ("one digit", "0", IS_TEXT),
+        ("a dump by xxd", "".join(dump_of(image, ":", 16, 2, True)), IS_TEXT),
+        ("a dump of 32 bytes in a line", "".join(dump_of(image, ":", 32, 4, True)), IS_TEXT),
+        ("a dump by od", "".join(dump_of(image, "", 16, 1, False)), IS_TEXT),
+        ("a dump without its text", "00000000: 3100 0900\n", IS_TEXT),
         ("blanks", " \n\r\t", ""),
         ("a colon alone", ":", ""),
         ("words", "0123 no image\n", ""),
@@ -266,13 +263,6 @@ def check_texts(checks, program):
         checks.expect(f"{name}, a deck", (0, note), (ran.status, ran.error))
         ran = run(program, "deck", *DEVICE, "--start", "0", "--least", given=given)
         checks.expect_that(f"{name}, the least job", ran.error.endswith(note), ran)
-    if not shutil.which("xxd"):
-        checks.skip("what the notes on text say to do", "no xxd")
-        return
-    for words, text in [("xxd -r -p", digits), ("xxd -r", dump)]:
-        made = run("bash", "-c", f'{words} | "$0" find --device 2314', program, given=text.encode())
-        wanted = Ran(0, "000800 yes 3 CCWs: search-id-equal, read-data\n")
-        checks.expect(f"an image by {words}", wanted, made)
 
 
 def check(checks, built):

@@ -24,7 +24,8 @@ pub fn image_notes(alloc: Global, at: u32, image: &[u8]) -> Result<Vec<u8>, Allo
     Ok(text.into_bytes())
 }
 
-/// The note on an image that is text.
+/// The note on an image that is text: hexadecimal digits and white space, and from the first colon
+/// on any visible characters.
 fn text_note(image: &[u8]) -> &'static str {
     let (mut digits, mut colons) = (false, false);
     for byte in image {
@@ -36,11 +37,10 @@ fn text_note(image: &[u8]) -> &'static str {
             _ => return "",
         }
     }
-    match (digits, colons) {
-        (true, false) => "note: this is text in hexadecimal; xxd -r -p turns it into an image\n",
-        (true, true) => "note: this is a dump with addresses; xxd -r turns it into an image\n",
-        (false, _) => "",
+    if digits {
+        return "note: this is text in hexadecimal; an image of storage is raw bytes\n";
     }
+    ""
 }
 
 /// For each search loop of an image, a search and a transfer back to it, the address at which the
