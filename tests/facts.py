@@ -3,8 +3,9 @@
 Each fact is on one page, and others link to it. Few are on two, because a reader needs them on
 both: the premises of the theorem, which the header lists as THEOREM does, the manual in short, and
 SUPERVISOR by their numbers; the reasons of a no, and which rest on choices of this project; the
-answers of calls; where the machine itself stores; how many commands there are; and the kit. TESTING
-counts decks, mutants, unit tests and the jobs of `model` and `peer`.
+answers of calls; where the machine itself stores; how many commands there are; what a command line
+looks like, in help and in the manual; and the kit. TESTING counts decks, mutants, unit tests and
+the jobs of `model` and `peer`.
 
 Two facts are in two places of the sources, because C has to be told, and because a constant text of
 the language can't be put together of others: the numbers of the header with the largest storage,
@@ -21,6 +22,7 @@ from running import text_of
 
 DOCS = ROOT / "docs"
 HEADER = ROOT / "crates/chanv_c/include/chanv.h"
+OPTIONS = "crates/chan_run/src/options.rt"
 # what the manual says in short, in the words of THEOREM
 IN_SHORT = [
     "main storage from address 0 on",
@@ -115,15 +117,35 @@ def check_numbers(checks):
     checks.expect("the largest storage of C", limit[1].replace("_", ""), largest[1])
 
 
+def usages():
+    """The usage of the program, and that of each command with options, by their constants."""
+    source = text_of(ROOT / "crates/chan_args/src/command_table.rt")
+    return dict(re.findall(r'(?s)const (USAGE\w*): &str = "(.*?)";', source))
+
+
 def check_usage(checks):
     """Each line of a command's usage is one of the usage of the program."""
-    source = text_of(ROOT / "crates/chan_args/src/command_table.rt")
-    usages = dict(re.findall(r'(?s)const (USAGE\w*): &str = "(.*?)";', source))
-    lines = usages.pop("USAGE").split("\n       ")
-    checks.expect("how many commands have a usage of their own", 6, len(usages))
-    for name, usage in usages.items():
+    commands = usages()
+    lines = commands.pop("USAGE").split("\n       ")
+    checks.expect("how many commands have a usage of their own", 6, len(commands))
+    for name, usage in commands.items():
         for line in usage.split("\n       "):
             checks.expect_that(f"a line of {name}", line in lines, line)
+
+
+def check_manual(checks):
+    """The manual has the usage of help and `help` itself, the devices of the option, and of the
+    lines `keep` what `chanv explain` says."""
+    page = text_of(DOCS / "chanv.1")
+    lines = re.sub("[<>]", "", usages()["USAGE"]).split("\n       ")
+    synopsis = page.partition("\n.SH SYNOPSIS\n.nf\n")[2].partition("\n.fi\n")[0]
+    said = re.sub(r"(?m)^\.B |\\f\w|\\(?=-)", "", synopsis).split("\n")
+    checks.expect("the synopsis of the manual", [*lines, "chanv help [COMMAND]"], said)
+    form = re.search(r'DEVICE_FORM: &str = "(.*)";', text_of(ROOT / OPTIONS))[1]
+    devices = re.search(r"for the IBM (.*) disks", page)[1]
+    checks.expect("the devices of the manual", *(re.findall(r"\d+", it) for it in (form, devices)))
+    keep = re.search(r"(?m)^keep: (.*)$", text_of(ROOT / "tests/explain.txt"))[1]
+    checks.expect_that(f"the manual says: keep has {keep}", f"keep has {keep}." in plain(page), page)
 
 
 def check_machine_stores(checks):
@@ -180,6 +202,7 @@ def check(checks, _built):
     check_answers(checks)
     check_numbers(checks)
     check_usage(checks)
+    check_manual(checks)
     check_machine_stores(checks)
     check_counts(checks)
     check_kit(checks)
