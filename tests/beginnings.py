@@ -126,6 +126,7 @@ CASES = [
         0x3000,
     ),
     ("the majority at --at", image_of_preamble(0x100, [(0, 0x2000), (16, 0x2000)]), 0x2000, None),
+    ("before storage", image_of_preamble(0x100, [(0x40, -8), (0x60, -8)]), 0, None),
     ("past the largest storage", image_of_preamble(0x100, [(0, 0xFFFF08), (16, 0xFFFF08)]), 0, None),
     ("up to its end", image_of_preamble(0x100, [(0, 0xFFFF00), (16, 0xFFFF00)]), 0, 0xFFFF00),
 ]

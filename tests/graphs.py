@@ -471,6 +471,8 @@ TWO_TRANSFERS = ["0600008080000004", "0800001800000000", LAST, "0800001000000001
 SEARCH_AGAIN = ["3100004040000005", "0800000000000000"]
 OVER_TRANSFER = [*SEARCH_AGAIN, "0600000F60000002", LAST]
 OVER_ALL = [*SEARCH_AGAIN, "0600000160000020", LAST]
+# two reads over the same CCW
+OVER_TWICE = ["0600001060000008", "0600001060000004", LAST]
 
 
 def job_over(ccws, start=0, extents=((0, 202),)):
@@ -482,8 +484,12 @@ def job_over(ccws, start=0, extents=((0, 202),)):
 def made_jobs():
     """Jobs that are rare among random ones."""
     rare = [*LARGE, TWICE, NO_DATA, RING, OVER_DRAWN, OVER_LEFT_OUT, OVER_TRANSFER, OVER_ALL]
-    yield from map(job_over, [*rare, TWO_TRANSFERS])
+    yield from map(job_over, [*rare, OVER_TWICE, TWO_TRANSFERS])
     yield job_over(RING, 8)
+    # a note for each area
+    for count in (MOST_NOTES, MOST_NOTES + 1):
+        areas = [(16 * at, 8) for at in range(count)]
+        yield job_over([LAST])._replace(fetch=areas, store=[])
     for count in (3, 4, 5, 7):
         yield job_over([LAST], extents=[(10 * at, 10 * at + 5) for at in range(count)])
 

@@ -50,6 +50,7 @@ UNKNOWN = {
     "serch-id-equal": "search-id-equal",
     "WRIT-DATA": "write-data",
     "write-key-data-m": "write-key-data",
+    "read-count-key-data-m": "read-count-key-data-mt",
     "kep": "keep",
     "seek-mt": "",
     "x" * 100_000: "",

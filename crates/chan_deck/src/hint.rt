@@ -308,8 +308,7 @@ fn push_expected(out: &mut String, spot: &Spot<'_>, cause: Cause) -> Result<(), 
 }
 
 /// Adds a line with a caret under the first character that the only form that may come there, or
-/// the one that the line begins like, doesn't have at its place, if the line is text and that is
-/// shown.
+/// the one that the line begins like, doesn't have at its place, if the line is text.
 fn push_caret(out: &mut String, spot: &Spot<'_>, cause: Cause) -> Result<(), AllocError> {
     let form = match (cause, forms_behind(spot.before.last, spot.before.is_second)) {
         (Cause::Form | Cause::Header, [form]) => *form,
@@ -326,10 +325,7 @@ fn push_caret(out: &mut String, spot: &Spot<'_>, cause: Cause) -> Result<(), All
     for at in 0..fitting(form, spot.found) {
         indent = indent.saturating_add(width_at(spot.found, at));
     }
-    if indent > SHOWN {
-        return Ok(());
-    }
-    for _ in 0.."found ".len() + indent {
+    for _ in 0.."found ".len().saturating_add(indent) {
         out.push(' ')?;
     }
     out.push_str("^\n")
