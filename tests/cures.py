@@ -3,13 +3,13 @@
     tests/run cures
 
 Over a FILE, standard error ends with lines `help: ..`. The model computes them for the verdict of
-each example deck with a no and of 1,500 random jobs: a line for the deck that lends or grants what
-is missing, or what to change in the program, and last the word to look up. Then the cure is carried
-out. With the line that help quotes in the deck, the offence with this address and this reason is
-gone. A program that help parts in two is judged again without the chain command that help names:
-the offence is gone. Both parts of two programs have a yes. Before help comes a note, exactly if a
-CCW with a fault leads on, because chanv doesn't look past it. Over standard input alone there is no
-help.
+each example deck with a no, of 1,500 random jobs, and of programs at the edges of the rules: a line
+for the deck that lends or grants what is missing, or what to change in the program, and last the
+word to look up. Then the cure is carried out. With the line that help quotes in the deck, the
+offence with this address and this reason is gone. A program that help parts in two is judged again
+without the chain command that help names: the offence is gone. Both parts of two programs have a
+yes. Before help comes a note, exactly if a CCW with a fault leads on, because chanv doesn't look
+past it. Over standard input alone there is no help.
 """
 
 import re
@@ -132,9 +132,10 @@ def changed_by(answer, place, reason):
 def parting_of(answer, place, path):
     """Where the first part ends and the second begins, if what is read is there before its use."""
     job, before = answer.job, path[:-1]
+    begins = ccw_at(job.storage, path[-1].address)
     commands = [it for it in before if not ccw_at(job.storage, it.address).is_transfer()]
     is_read_before = any(it.address == place.address for it in before)
-    if path[-1].entered != FRESH or not is_read_before or not commands:
+    if path[-1].entered != FRESH or not is_read_before or not commands or begins.is_transfer():
         return None
     last = commands[-1]
     command = command_at(last, ccw_at(job.storage, last.address))
@@ -173,9 +174,10 @@ def said_beside(deck, name="", is_among=False):
 
 
 def is_unseen(answer):
-    """Whether a CCW with a fault of its own has a chaining flag on."""
+    """Whether a CCW with a fault of its own leads on: a transfer, or one with a chaining flag."""
     ccws = [ccw_at(answer.job.storage, it.address) for it, fault in answer.faults.items() if fault]
-    return any(ccw and ccw.flags & (CHAIN_DATA | CHAIN_COMMAND) for ccw in ccws)
+    chaining = CHAIN_DATA | CHAIN_COMMAND
+    return any(ccw and (ccw.is_transfer() or ccw.flags & chaining) for ccw in ccws)
 
 
 def with_line(deck, line):
@@ -302,11 +304,81 @@ def check_parts(checks, program):
             checks.expect(f"the {part} part of {name}", Ran(0, "yes\n"), ran)
 
 
+# programs that read over a CCW of their own: what comes after the read at 000810, the CCW that it
+# reads over, and where help parts each: before that CCW, and after the CCW before it. A first part
+# can't end at a search or within a data chain, and a second part can't begin with a transfer.
+READING = {
+    "after a search": (
+        "3100090040000005 0800081800000000 06000A0020000050",
+        "000828",
+        None,
+    ),
+    "after the data chain of a search": (
+        "3100090080000002 0000090240000003 0800081800000000 06000A0020000050",
+        "000830",
+        None,
+    ),
+    "within a data chain": ("06000A0080000008 00000A0800000008", "000820", None),
+    "at a transfer": (
+        "0300000040000001 0800083000000000 0300000040000001 06000A0020000050",
+        "000820",
+        None,
+    ),
+    "after a data chain": (
+        "06000A0080000008 00000A0840000008 06000A1020000050",
+        "000828",
+        ("000828", "000820"),
+    ),
+}
+# the cylinders of seeks outside the extents, and the line that help quotes, if the device has it
+SEEKS = {202: "extent 202 202", 203: None}
+
+
+def job_over(ccws, argument=bytes(5)):
+    """A job of these CCWs from 000800 on, with an argument at 000900; all areas are lent."""
+    storage = bytearray(0x1000)
+    program = bytes.fromhex(ccws)
+    storage[0x800 : 0x800 + len(program)] = program
+    storage[0x900 : 0x900 + len(argument)] = argument
+    whole = [(0, len(storage))]
+    return Job(bytes(storage), 0x800, 2314, 0, [(10, 19)], whole, whole)
+
+
+def help_over(checks, program, room, name, job):
+    """The lines of help on a job, which are the model's too."""
+    path = room / "my.deck"
+    path.write_text("".join(f"{line}\n" for line in deck_of(job)))
+    helping = [it for it in run(program, "why", path).error.splitlines() if it.startswith("help: ")]
+    checks.expect(f"the model's help {name}", [*help_of(Answer(job))], helping)
+    return helping
+
+
+def check_where_parted(checks, program, room):
+    for name, (after, over, parts) in READING.items():
+        front = f"3100090040000005 0800080000000000 06{over}40000008"
+        job = job_over(f"{front} {after}")
+        helping = help_over(checks, program, room, name, job)
+        elsewhere = f"help: store the data elsewhere, so that the CCW at {over} stays"
+        checks.expect(f"what is read over {name}", [elsewhere], helping[:1])
+        parted = [it.groups() for it in map(PARTED.fullmatch, helping) if it]
+        checks.expect(f"where a program is parted {name}", [parts] if parts else [], parted)
+
+
+def check_cylinders(checks, program, room):
+    for cylinder, line in SEEKS.items():
+        job = job_over("0700090000000006", bytes([0, 0, 0, cylinder, 0, 0]))
+        helping = help_over(checks, program, room, f"on cylinder {cylinder}", job)
+        quoted = [it[1] for it in map(QUOTED.fullmatch, helping) if it]
+        checks.expect(f"the line for cylinder {cylinder}", [line] if line else [], quoted)
+
+
 def check(checks, built):
     program, tried = built.chanv(), Counter()
     with tempfile.TemporaryDirectory() as room:
         for path, job in decks_and_jobs(room, SEED, JOBS):
             check_deck(checks, program, path, job, tried)
+        check_where_parted(checks, program, Path(room))
+        check_cylinders(checks, program, Path(room))
     check_names(checks, program)
     check_parts(checks, program)
     changes = [f"changes-{what}" for what in ("ccw", "argument")]

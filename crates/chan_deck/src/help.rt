@@ -146,11 +146,13 @@ fn push_parting(out: &mut String, job: &Job, witness: &Witness) -> Result<(), Al
 
 /// Where a program can be parted so that what it reads in is there before it is used: the address
 /// of the last CCW of the first part, whose chain command leads to the second part, and of the
-/// first CCW of the second. None if the data isn't read in before, or if a search leads there.
+/// first CCW of the second. None if the data isn't read in before, if a search leads there, or if
+/// the second part would begin with a transfer.
 fn parting(job: &Job, path: &[Place], second_path: &[Place]) -> Option<(u32, u32)> {
     let changing = path.last()?.address;
     let (user, before) = second_path.split_last()?;
-    if user.entered != Entry::Fresh || !has_address(before, changing) {
+    let first = job.storage.ccw_at(user.address)?;
+    if first.is_transfer() || user.entered != Entry::Fresh || !has_address(before, changing) {
         return None;
     }
     let last = last_command(job, before)?;
@@ -194,11 +196,11 @@ fn searches(place: Place, code: u8) -> bool {
 }
 
 /// The note on a no beside which CCWs weren't looked at, because a CCW that leads to them has a
-/// fault.
+/// fault. A transfer leads on whatever its flags, which the channel ignores.
 pub fn unseen_note(survey: &Survey) -> &'static str {
     for look in survey.looks() {
         if let (Some(_), Some(ccw)) = (look.fault(), look.ccw()) {
-            if ccw.chains_data() || ccw.chains_command() {
+            if ccw.is_transfer() || ccw.chains_data() || ccw.chains_command() {
                 return "note: chanv didn't look past the CCWs that have a fault; \
                         after a repair ask again\n";
             }
