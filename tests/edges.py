@@ -44,7 +44,7 @@ INTERRUPTS = "interrupts: the processor may then change any byte not listed as k
 ENDS = "ends the program: chain data is on, and the command moves no data"
 HANGS = (
     "from {} (entered {}) on the program never ends by itself: "
-    "only an error, an incorrect length or a Halt I/O stops it"
+    "only an error, an end of file, an incorrect length or a Halt I/O stops it"
 )
 IGNORED = "in byte 5, which the channel ignores; flags are in byte 4"
 PAST, UNUSED = "reaches past storage", "is used by no reachable CCW"

@@ -9,8 +9,8 @@
 
 enum { UNITS = 8, MOST_BYTES = 2048, MAY_HANG = 100 };
 
-/* Whether it takes in programs that, from some place on, only an error, an incorrect length or a
- * halt ends. */
+/* Whether it takes in programs that, from some place on, only an error, an end of file, an incorrect
+ * length or a halt ends. */
 static int takes_hanging = 0;
 
 /* A program that was taken in. The program points into `memory`, which has MOST_BYTES and stays

@@ -72,7 +72,8 @@ def hang_note(places):
         first = min(places, key=lambda place: place.order())
         yield (
             f"note: from {first.address:06X} (entered {WAY[first.entered]}) on the program never "
-            "ends by itself: only an error, an incorrect length or a Halt I/O stops it"
+            "ends by itself: only an error, an end of file, an incorrect length or a Halt I/O stops "
+            "it"
         )
 
 

@@ -19,7 +19,7 @@ const MACHINE_STORES: &str = " is where the machine stores PSWs, the CSW or the 
 
 /// The note on the place from which on the program never ends by itself.
 const HANGS: &str = " on the program never ends by itself: \
-    only an error, an incorrect length or a Halt I/O stops it";
+    only an error, an end of file, an incorrect length or a Halt I/O stops it";
 
 /// The note on a CCW with the flag for a program-controlled interruption.
 const INTERRUPTS: &str =

@@ -258,7 +258,7 @@ chanv doesn't know this word.
     "expected: what the refused line of a deck may contain",
     "note: a line on standard error that changes no answer and no status",
     "help: a line on standard error that says how to cure a no",
-    "never ends by itself: in a picture, nothing but an error or a Halt I/O stops it from here on",
+    "never ends by itself: in a picture, only the device or a Halt I/O stops it from here on",
     "cannot open: see cannot-open",
     "no such file: see no-such-file",
     "permission denied: see permission-denied",

@@ -1,6 +1,6 @@
 -- Where a program ends by itself, from where it can end, and where it may hang: from there on only
--- an error, an incorrect length or a halt ends it. An end because a record has another length than
--- the CCWs isn't counted: it depends on what the disk holds.
+-- an error, an end of file, an incorrect length or a halt ends it. An end because a record has no
+-- data, or another length than the CCWs, isn't counted: it depends on what the disk holds.
 use Rattle.std.specs.Prelude.{◌≡◌, ℕ, ◌+◌, ◌<◌, ◌≤◌, Bool, true, false, not, List, [], ◌∷◌, ◌++◌}
 use Rattle.std.specs.Prelude.{length, reverse, slice_get, slice_index_or, Option, None, Some, ◌⊎◌}
 use Rattle.std.specs.Prelude.{◌↔◌, ◌&&◌, ◌/◌, ◌%◌, take, slice_index, is_none, option_map}

@@ -268,8 +268,8 @@ struct chanv_needed {
     size_t keep_count;
     size_t kept_len;       /* how many bytes all areas of `keep` have together */
     uint32_t storage_len;  /* how many bytes storage has */
-    uint32_t may_hang;     /* 1 if from some place on only an error, an incorrect length or a halt
-                              ends the program */
+    uint32_t may_hang;     /* 1 if from some place on only an error, an end of file, an incorrect
+                              length or a halt ends the program */
     uint32_t hangs_at;     /* the least address of a CCW from which on it does */
     uint8_t mask;          /* the strictest file mask that serves */
     uint8_t hangs_entered; /* how the program enters the CCW at `hangs_at`, an `enum chanv_entered`;
