@@ -6,14 +6,15 @@ line, in any case of the word's letters. The words explained at length are the r
 in docs/VERDICT.md, the causes of the table in docs/DECK.md, and the failures of the table in
 docs/OUTPUT.md, in this order. The commands of docs/DEVICE.md are words too, each with its code.
 Each word that `verify`, `list`, `why`, `needs`, `graph` or `find` writes about an example is known,
-and so are codes, masks, and flags as a row shows them. Any other word is refused, and the nearest
-is named. And `chanv why` gives the cause of each example deck's no in a form that the row of its
-reason in docs/OUTPUT.md shows; each reason has an example.
+and so are codes, the names of further codes, masks, and flags as a row shows them. Any other word
+is refused, and the nearest is named. And `chanv why` gives the cause of each example deck's no in a
+form that the row of its reason in docs/OUTPUT.md shows; each reason has an example.
 """
 
 import re
 
 from building import HERE, ROOT, short
+from causes import FURTHER
 from examples import FOLDERS, TEXTS, taken_apart, verdicts_of
 from running import Ran, run, text_of
 
@@ -53,6 +54,9 @@ UNKNOWN = {
     "read-count-key-data-m": "read-count-key-data-mt",
     "kep": "keep",
     "seek-mt": "",
+    "restor": "",
+    "musk 98": "",
+    "mask  98": "",
     "x" * 100_000: "",
 }
 
@@ -158,7 +162,7 @@ def group_of(code):
 
 
 def check_codes(checks, program, meanings):
-    """A command code is a word, as is `mask` with a byte."""
+    """A command code is a word, as are the name of a further code and `mask` with a byte."""
     page = text_of(ROOT / "docs/DEVICE.md")
     writes, seeks = inhibited_by(page)
     classes, commands = {}, {}
@@ -186,13 +190,19 @@ def check_codes(checks, program, meanings):
     for code, said in OTHER_CODES.items():
         line = f"{code.upper()}: group {said.format(transfer=transfer)}\n"
         checks.expect(code, Ran(0, line), run(program, "explain", code))
+    for code, named in FURTHER.items():
+        name = named[2:-1]
+        said = f"group {group_of(code)}, {name}: not in the table of commands that chanv knows"
+        for word in (f"{code:02X}", name, name.upper()):
+            checks.expect(word, Ran(0, f"{code:02X}: {said}\n"), run(program, "explain", word))
     for write, of_writes in writes:
         for seek, of_seeks in seeks:
             those = of_writes | of_seeks
             names = [name for _, (name, it) in sorted(classes.items()) if it in those]
             line = f"mask {write | seek:02X}: inhibits {', '.join(names) or 'no command'}\n"
-            ran = run(program, "explain", f"mask {write | seek:02x}")
-            checks.expect(f"mask {write | seek:02X}", Ran(0, line), ran)
+            for word in ("mask {:02x}", "MASK {:02X}"):
+                word = word.format(write | seek)
+                checks.expect(word, Ran(0, line), run(program, "explain", word))
     for byte, shown in NO_MASKS.items():
         line = f"mask {shown}: isn't a file mask; only the bits C0 and 18 may be on\n"
         checks.expect(f"mask {byte}", Ran(0, line), run(program, "explain", f"mask {byte}"))

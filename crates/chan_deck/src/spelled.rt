@@ -1,5 +1,5 @@
-//! What is said of a word that is a command code, as `07`, a file mask, as `mask 98`, or flags, as
-//! `-CL--0`.
+//! What is said of a word that is a command code, as `07`, the name of a further code, as
+//! `restore`, a file mask, as `mask 98`, or flags, as `-CL--0`.
 
 use crate::words::word_row;
 use ccw_core::Ccw;
@@ -28,19 +28,31 @@ const FLAGS: [(u8, &'static str); 5] = [
     (b'P', "P program-controlled interruption"),
 ];
 
-/// The line on a word, if it is a command code, a file mask or flags. Tests hold the wording. An
-/// error means that an allocation failed.
+/// The line on a word, if it is a command code, the name of a further code, a file mask or flags.
+/// All but flags may be in upper or lower case. Tests hold the wording. An error means that an
+/// allocation failed.
 pub fn spelled_text(alloc: Global, word: &str) -> Result<Option<String>, AllocError> {
-    let Some(digits) = word.strip_prefix("mask ") else {
-        return match spelled_byte(word) {
-            Some(code) => Ok(Some(code_text(alloc, code)?)),
-            None => flags_text(alloc, word),
+    if let Some((first, digits)) = word.split_once(" ") {
+        return match spelled_byte(digits) {
+            Some(byte) if first.eq_ignore_ascii_case("mask") => Ok(Some(mask_text(alloc, byte)?)),
+            _ => Ok(None),
         };
-    };
-    match spelled_byte(digits) {
-        Some(byte) => Ok(Some(mask_text(alloc, byte)?)),
-        None => Ok(None),
     }
+    match spelled_code(word) {
+        Some(code) => Ok(Some(code_text(alloc, code)?)),
+        None => flags_text(alloc, word),
+    }
+}
+
+/// The command code that a word spells: by the name of a further code, or by two digits.
+fn spelled_code(word: &str) -> Option<u8> {
+    for code in 0..=255u8 {
+        match further_name(code) {
+            Some(name) if name.eq_ignore_ascii_case(word) => return Some(code),
+            _ => {}
+        }
+    }
+    spelled_byte(word)
 }
 
 /// The byte that two hexadecimal digits of either case spell.
