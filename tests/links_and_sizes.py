@@ -1,9 +1,8 @@
-"""The links and paths of the pages lead somewhere, and README keeps its size.
+"""The links of the pages lead somewhere, and README keeps its size.
 
 A page is README.md, CHANGELOG.md, a page of docs/, or a README of another folder. Its links lead to
-pages and headings that exist, and so do the paths of the repository that it names. Each page of
-docs/ that code or the manual names is there, and README leads to each page of docs/. Each term of
-the glossary has a link. README has at most 130 lines.
+pages and headings that exist. Each page of docs/ that code or the manual names is there, and README
+leads to each page of docs/. Each term of the glossary has a link. README has at most 130 lines.
 """
 
 import re
@@ -25,9 +24,6 @@ SOURCES = {".rt", ".antt", ".h", ".c", ".py", ".txt", ".edit", ".sh", ".s"}
 NAMED = r"\bdocs/([A-Z]+(?:\\?-[A-Z]+)*\.md)\b"
 
 FENCED = r"(?ms)^```.*?^```$"
-# a path from the top of the repository; NAME and the like stand for any, and make writes out/
-PATH = r"`((?:c|crates|tests|examples|docs|bench|rustc)/[\w./-]+)`"
-ANY = r"[A-Z]{2,}/|/[A-Z]{2,}\.(?!md)|/out/"
 
 
 def anchors_of(page):
@@ -53,12 +49,6 @@ def broken_links(page):
 def check_links(checks, page):
     for link, is_there in links_of(page):
         checks.expect_that(f"{short(page)}: the link {link}", is_there, link)
-
-
-def check_paths(checks, page):
-    for path in sorted(set(re.findall(PATH, text_of(page)))):
-        is_there = re.search(ANY, path) or (ROOT / path).exists()
-        checks.expect_that(f"{short(page)}: the path {path}", is_there, path)
 
 
 def sources():
@@ -99,4 +89,3 @@ def check(checks, _built):
     check_readme(checks)
     for page in PAGES:
         check_links(checks, page)
-        check_paths(checks, page)
