@@ -145,7 +145,8 @@ def check_manual(checks):
     devices = re.search(r"for the IBM (.*) disks", page)[1]
     checks.expect("the devices of the manual", *(re.findall(r"\d+", it) for it in (form, devices)))
     keep = re.search(r"(?m)^keep: (.*)$", text_of(ROOT / "tests/explain.txt"))[1]
-    checks.expect_that(f"the manual says: keep has {keep}", f"keep has {keep}." in plain(page), page)
+    says_so = f"keep has {keep}." in plain(page)
+    checks.expect_that(f"the manual says: keep has {keep}", says_so, page)
 
 
 def check_machine_stores(checks):

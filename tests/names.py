@@ -51,7 +51,9 @@ PATH = re.compile(rf"(?:[\w.-]+/)+[\w.-]*|[\w-]+\.{ENDINGS}")
 # `NAME` and the like stand for any name, and `out/` is made
 ANY = re.compile(r"[A-Z]{2,}(?:/|\.|$)|(?:^|/)(?:out|[A-Z])/|^[~.]*/")
 DEFINITIONS = re.compile(r"crates/(\w+)/specs/(\w+)\.antt")
-IN_CRATE = re.compile(r"`((?:src|specs|proofs)/[\w./]+)`(?:(?:,| and|, and) `[^`]+`)*(?: of `(\w+)`)?")
+IN_CRATE = re.compile(
+    r"`((?:src|specs|proofs)/[\w./]+)`(?:(?:,| and|, and) `[^`]+`)*(?: of `(\w+)`)?"
+)
 
 
 def files():

@@ -10,9 +10,9 @@ some function, constant or definition. A function's mutant may also be one of a 
 calls. The table of laws in docs/MACHINE.md names only functions that exist, among them all of
 laws.rt. No file of mutants is left out: each belongs to a crate and names what has to refuse it.
 
-A name means one thing: no two files of specs/ define the same name, and no two public types have
-one. No two modules of a crate import each other, directly or through others. No line is wider than
-a page, but for imports of proofs, and these name each module once.
+No two files of specs/ define the same name, and no two public types have one name. No two modules
+of a crate import each other, directly or through others. No line is wider than a page, but for
+imports of proofs, and these name each module once.
 """
 
 import re

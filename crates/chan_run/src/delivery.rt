@@ -1,4 +1,4 @@
-//! Delivering an answer: the only place that writes one.
+//! Delivering an answer: its output, and what is said beside it.
 
 ghost use Rattle.std.specs.Prelude.{◌≡◌, ◌↔◌, ◌++◌, false, true, IfErr, IfOk, IsErr, OnOk};
 ghost use Rattle.std.specs.Io.KnownBytes.{Appends};

@@ -4,8 +4,9 @@
 -- It is *guarded* where a reachable place has it in its CCW or its argument; under a yes that is
 -- the same, by a law of `Alarm`. It is *kept* where it is guarded under the program's open job,
 -- whatever the job grants: what a supervisor remembers (`Needs` of chan_needs). It is a *verdict
--- byte* where another value may change the verdict, be it a yes or a no (`VerdictBytes`); under a
--- yes each of them is guarded.
+-- byte* if it is one of those on which the verdict, a yes or a no, may depend (`VerdictBytes`), such
+-- as the bytes of reachable CCWs, though byte 5 of a CCW changes none; under a yes each verdict byte
+-- is guarded.
 use Rattle.std.specs.Prelude.{◌≡◌, ℕ, ◌+◌, ◌<◌, ◌≤◌, true, List, ◌⊎◌}
 use Rattle.ccw_core.specs.Ccw.{ccw}
 use Rattle.ccw_core.specs.Storage.{Stands}

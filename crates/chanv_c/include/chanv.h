@@ -50,7 +50,9 @@
  *    force.
  * 3. Each program in flight has a unit of its own, that is, a device at an address of its own. It
  *    leaves the table of programs in flight only after the channel's last store for it is visible.
- * 4. While a program is in the table, its lists and its kept bytes don't change.
+ * 4. Each program in the table, and the program about to start, is what `chanv_take_in` or
+ *    `chanv_needs` gave with `CHANV_OK`, and neither its lists nor its kept bytes have changed.
+ *    Every other row of the table only stores or only keeps.
  * 5. From a question to the start, or to the end of the write, no other program starts, and nothing
  *    else writes a byte that a program in the table or the program about to start keeps.
  * 6. Others write only after a yes of `chanv_check_write`, and the machine's own stores (of PSWs,
