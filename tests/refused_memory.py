@@ -115,9 +115,6 @@ def stopped():
 def command_cases(chanv):
     for words, given, answer in commands():
         complaints = (OUT_OF_MEMORY,)
-        # for the answer, and again for the notes on the image
-        if words[0] == "find":
-            complaints += (2 * OUT_OF_MEMORY,)
         # the second once a file is read
         if SEARCH_LOOP in words:
             complaints += (f"chanv: {SEARCH_LOOP}: out of memory\n",)
@@ -170,10 +167,8 @@ def help_cases(chanv):
         words=[chanv, "find", "--device", "2314"],
         expected=Ran(0, "", note_of(loops) + NONE_FOUND),
         given=loops,
-        # the note, or a complaint in its place, follows that on the answer
-        complaints=[
-            OUT_OF_MEMORY + rest for rest in ("", OUT_OF_MEMORY, NONE_FOUND, note_of(loops))
-        ],
+        # for the search, after which no note is made; and in place of the note on search loops
+        complaints=(OUT_OF_MEMORY, OUT_OF_MEMORY + NONE_FOUND),
         may_answer=True,
     )
 
