@@ -14,9 +14,10 @@ use std::io::Write;
 /// Writes the meaning of a word, and how to fix what it names.
 ///
 /// The word may be in upper or lower case. It may also be a command code, as `07`, the name of a
-/// further code, as `restore`, a file mask, as `mask 98`, or the flags of a listing, as `-CL--0`. If
-/// chanv doesn't know the word, the outcome is `Unknown` with the nearest word, or `NoSuchWord` if
-/// none is near; `OutOfMemory` may come in their place. `WriteFailed` comes exactly if a write
+/// further code, as `restore`, a file mask, as `mask 98`, or the flags of a listing, as `-CL--0`.
+///
+/// If chanv doesn't know the word, the outcome is `Unknown` with the nearest word, or `NoSuchWord`
+/// if none is near; `OutOfMemory` may come in their place. `WriteFailed` comes exactly if a write
 /// failed, and then a prefix was written. Only `Done` and `WriteFailed` write anything.
 pub fn explain_word<W: Write>(alloc: Global, word: &str, to: &mut Watched<W>) -> Outcome
     requires { to.old.failed ≡ false }

@@ -22,8 +22,8 @@ use std::alloc::{AllocError, Global};
 ///
 /// A program ends by itself at a place that has no own fault and that no other place follows: at a
 /// CCW, other than a transfer, with both chaining flags off, or with chain data on if the operation
-/// moves no data. From the place of the answer on only an error, an end of file, an incorrect length
-/// or a halt ends it. If the verdict is no, nothing is said about runs.
+/// moves no data. From the place of the answer on only an error, an end of file, an incorrect
+/// length or a halt ends it. If the verdict is no, nothing is said about runs.
 ///
 /// With n places the cost is n; if the addresses are chosen for it, up to 2^25 steps.
 pub fn hang_from(alloc: Global, survey: &Survey) -> Result<Option<Place>, AllocError>
