@@ -3,9 +3,9 @@
 -- Four sets of bytes are about this. A byte is *used* where some run of the job uses it (`Runs`).
 -- It is *guarded* where a reachable place has it in its CCW or its argument; under a yes that is
 -- the same, by a law of `Alarm`. It is *kept* where it is guarded under the program's open job,
--- whatever the job grants: what a supervisor remembers (`Needs` of chan_needs). On its *verdict
--- bytes* the verdict depends, be it a yes or a no, and on no other bytes (`VerdictBytes`); not each
--- of them counts, such as byte 5 of a CCW. Under a yes each of them is guarded.
+-- whatever the job grants: what a supervisor remembers (`Needs` of chan_needs). A verdict, be it a
+-- yes or a no, depends on no byte but its *verdict bytes* (`VerdictBytes`), though not on each:
+-- byte 5 of a CCW never counts. Under a yes each of them is guarded.
 use Rattle.std.specs.Prelude.{◌≡◌, ℕ, ◌+◌, ◌<◌, ◌≤◌, true, List, ◌⊎◌}
 use Rattle.ccw_core.specs.Ccw.{ccw}
 use Rattle.ccw_core.specs.Storage.{Stands}
