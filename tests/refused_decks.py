@@ -3,11 +3,13 @@
 They are those of rows/refused_decks.txt, and the search loop's deck, damaged. Each front of its 205
 bytes is refused as `ended`, at the line that is one more than its number of line feeds. Each byte
 replaced by `~` is refused at its own line: the first thirteen as `header`, the last as `ended`, and
-each other as `form`. By docs/OUTPUT.md `why` expects a line feed or the forms that may come.
+each other as `form`. By docs/OUTPUT.md `why` expects a line feed or the forms that may come, and
+the conditions that it expects are those of the page.
 """
 
 import re
 
+from building import ROOT
 from examples import SEARCH_LOOP, TEXTS
 from rows import Row, bytes_of, check_rows, sections_of
 from running import Ran, text_of
@@ -139,5 +141,35 @@ def rows():
             yield Row(["why"], Ran(2, "", error), front + DECKS["version 1"].encode(order))
 
 
+# a row of OUTPUT's table on `expected` that is about one cause, and what stands for a value there
+CONDITION = r"(?m)^\| `([a-z-]+)` \| (.*) \|$"
+VALUES = {"ADDRESS": "[0-9A-F]{6}", "SSSSSSS": "[0-9A-F]{7}"}
+
+
+def conditions():
+    """The texts that OUTPUT has for each cause that is a condition, as patterns."""
+    page = text_of(ROOT / "docs/OUTPUT.md").partition("\n### A text that isn't a deck\n")[2]
+    for cause, said in re.findall(CONDITION, page.partition("\n## ")[0]):
+        texts = [re.escape(text) for text in re.findall("`([^`]+)`", said)]
+        yield cause, [re.sub("|".join(VALUES), lambda it: VALUES[it[0]], it) for it in texts]
+
+
+def check_conditions(checks):
+    """What is expected by the rows is what OUTPUT says, and each of its texts is."""
+    sections, told = sections_of("refused_decks.txt"), dict(conditions())
+    every = [row for name in ("no deck", "after version 2") for row in sections[name]]
+    expected = {(row[0].split(" ")[1], row[-1]) for row in every}
+    checks.expect("how many causes have a condition", 8, len(told))
+    for cause, texts in told.items():
+        found = {text for other, text in expected if other == cause}
+        for text in found:
+            fits = any(re.fullmatch(pattern, text) for pattern in texts)
+            checks.expect_that(f"OUTPUT on {cause}: {text}", fits, texts)
+        for pattern in texts:
+            comes = any(re.fullmatch(pattern, text) for text in found)
+            checks.expect_that(f"a row on {cause}: {pattern}", comes, found)
+
+
 def check(checks, built):
+    check_conditions(checks)
     check_rows(checks, built.chanv(), rows())

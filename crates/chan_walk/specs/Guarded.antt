@@ -5,7 +5,7 @@
 -- the same, by a law of `Alarm`. It is *kept* where it is guarded under the program's open job,
 -- whatever the job grants: what a supervisor remembers (`Needs` of chan_needs). A verdict, be it a
 -- yes or a no, depends on no byte but its *verdict bytes* (`VerdictBytes`), though not on each:
--- byte 5 of a CCW never counts. Under a yes each of them is guarded.
+-- as such, byte 5 of a CCW never counts. Under a yes each of them is guarded.
 use Rattle.std.specs.Prelude.{◌≡◌, ℕ, ◌+◌, ◌<◌, ◌≤◌, true, List, ◌⊎◌}
 use Rattle.ccw_core.specs.Ccw.{ccw}
 use Rattle.ccw_core.specs.Storage.{Stands}
