@@ -9,7 +9,8 @@ trace has to be a run of the machine in tests/model. A program check comes exact
 has one; bytes outside storage have a storage key of their own. After a yes of chanv there is no
 program check, each place on the way is in the listing, no byte outside the areas for storing has
 changed, and the arm is inside the extents. Each difference has to be in the table of
-docs/MACHINE.md. Wrong machines are followed too, and each has to differ otherwise.
+docs/MACHINE.md. Wrong machines are followed too, and each has to differ otherwise. A program that
+reads a record for ever ends if the record is an end of file.
 """
 
 import argparse
@@ -31,7 +32,7 @@ from running import text_of  # noqa: E402
 sys.path.insert(0, str(HERE / "peer"))
 
 from emulator import CONTENTS, MOST_GATHERING, MOST_MILLISECONDS, Request  # noqa: E402
-from emulator import fits, in_blocks, make_volumes, run_all  # noqa: E402
+from emulator import fits, in_blocks, make_volume, make_volumes, run_all  # noqa: E402
 from following import WRONG, Machine, changes_itself, difference, follow  # noqa: E402
 from following import gathers_for_ever  # noqa: E402
 from judging import Job  # noqa: E402
@@ -51,8 +52,16 @@ PROBES = {
     "another device": ["1700000060000001", "0300000020000001"],
 }
 
+# a program that reads the first record of cylinder 10, head 0, for ever
+READS_AGAIN = ["3100090040000005", "0800080000000000", "06000A0060000050", "0800080000000000"]
+FIRST_RECORD = bytes([0, 10, 0, 0, 1])
+# what it comes to by the records of the disk: whether it has to be halted, and the unit status,
+# which is channel end and device end with unit exception after an end of file
+ENDS = {"plain": (True, 0x00), "ended": (False, 0x0D)}
+
 # a run without end that has shown fewer CCWs was only slow, and is carried out again
 FEW_CCWS, MORE_MILLISECONDS = 300, 2000
+LONG = 300
 
 
 def jobs_of(seed, count):
@@ -141,6 +150,22 @@ def check_wrong(checks, ran, known):
         checks.expect_that(f"a run shows that {wrong.__name__} is wrong", shown, "no run")
 
 
+def check_end_of_file(checks):
+    """Of a program that never ends by itself, a read of an end of file ends."""
+    storage = bytearray(0x1000)
+    program = bytes.fromhex("".join(READS_AGAIN))
+    storage[0x800 : 0x800 + len(program)] = program
+    storage[0x900 : 0x900 + len(FIRST_RECORD)] = FIRST_RECORD
+    lent = [(0, len(storage))]
+    request = Request(Job(bytes(storage), 0x800, 2314, 0, [(10, 19)], lent, lent), "plain", LONG)
+    for content, ended in ENDS.items():
+        with tempfile.TemporaryDirectory() as room:
+            volume = make_volume(Path(room), 2314, content, [])
+            [outcome] = run_all([request], {request.device(): (2314, volume)})
+        found = outcome.is_late, outcome.unit_status
+        checks.expect(f"a read again and again of records that are {content}", ended, found)
+
+
 def compare(checks, built, seed, count):
     missing = [name for name in ("hercules", "dasdinit") if not shutil.which(name)]
     if missing:
@@ -161,6 +186,7 @@ def compare(checks, built, seed, count):
     checks.expect("each job ran on each disk", len(CONTENTS) * len(stable), len(ran))
     checks.expect_that("each class comes", classes.keys() >= {*known}, sorted(map(str, classes)))
     check_wrong(checks, ran, known)
+    check_end_of_file(checks)
 
 
 def check(checks, built):

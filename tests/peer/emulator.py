@@ -119,8 +119,11 @@ def track(cylinder, head, size, records, first):
 
 
 def records_of(content, cylinder, head, sought, random):
-    """Usual records, records that the searches of the jobs find, or odd ones."""
+    """Usual records, records without data, which mark the end of a file, records that the searches
+    of the jobs find, or odd ones."""
     names = [struct.pack(">HHB", cylinder, head, number) for number in range(1, 8)]
+    if content == "ended":
+        return [(name, b"", b"") for name in names]
     if content == "plain":
         sizes = [(8, 80), (0, 80), (8, 80), (0, 256), (8, 256)]
         return [(name, bytes(key), random.randbytes(n)) for name, (key, n) in zip(names, sizes)]
