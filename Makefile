@@ -141,6 +141,7 @@ install:
 	sed -e 's|@PREFIX@|$(PREFIX)|; s|@VERSION@|$(VERSION)|' \
 	  -e 's|@LIBDIR@|$(subst $(PREFIX)/,$${prefix}/,$(LIBDIR))|' docs/chanv.pc.in > \
 	  "$(TO_LIB)/pkgconfig/chanv.pc"
+	chmod 644 "$(TO_LIB)/pkgconfig/chanv.pc"
 
 uninstall:
 	rm -f "$(TO)/bin/chanv" "$(TO)/share/man/man1/chanv.1" "$(TO)/include/chanv.h" \

@@ -3,20 +3,23 @@
 It copies what `make` and `make lib` built, and builds nothing; the archive and the shared library
 show the calls of the header, and nothing else; the example of docs/EMBEDDING.md is built with what
 pkg-config says, with either library; each link of the installed pages leads to an installed file,
-and so does each page that the manual and the header name; and `make uninstall` takes away all that
-was put there. The commands and the Python of docs/EMBEDDING.md do what the page shows. What asks
-pkg-config is left out, by its name, where there is none.
+and so does each page that the manual and the header name; each file of a stage has its mode, and
+nothing is written beside the stage; and `make uninstall` takes away all that was put there. No
+prefix is outside the test's own folder. The commands and the Python of docs/EMBEDDING.md do what
+the page shows. What asks pkg-config is left out, by its name, where there is none. `make try` hands
+its deck to `rt`, in whose place a script stands.
 """
 
 import os
 import re
 import shutil
+import stat
 import sys
 import tempfile
 from pathlib import Path
 
-from building import FLAGS, ROOT, compile_c, version_of
-from examples import EXAMPLES
+from building import FLAGS, ROOT, compile_c, version, version_of
+from examples import EXAMPLES, SEARCH_LOOP
 from links_and_sizes import NAMED, broken_links
 from pages import EMBEDDING, check_page, shown_by
 from running import Ran, run, text_of
@@ -25,10 +28,38 @@ PROGRAM = "crates/chanv/out/chanv"
 # what the page says as the prefix
 PREFIX = "/usr/local"
 
+# what runs is for all to run, and everything else for all to read
+RUNS, READ, LINK = "-rwxr-xr-x", "-rw-r--r--", "lrwxrwxrwx"
+DOCS, TRIED = "share/doc/chanv", "examples/hercules/try.sh"
+# what a stage has beside the pages
+STAGED = {
+    "bin/chanv": RUNS,
+    "include/chanv.h": READ,
+    "share/bash-completion/completions/chanv": READ,
+    "share/chanv/python/chanv/__init__.py": READ,
+    "share/chanv/python/chanv/_c.py": READ,
+    "share/chanv/python/chanv/py.typed": READ,
+    "share/man/man1/chanv.1": READ,
+}
+STAGED_LIBRARIES = {
+    "libchanv.a": READ,
+    f"libchanv.so.{version()}": RUNS,
+    f"libchanv.so.{version().rpartition('.')[0]}": LINK,
+    "libchanv.so": LINK,
+    "pkgconfig/chanv.pc": READ,
+}
 
-def make(target, to, *words):
+# in place of rt: says where it is and what it is told, and copies the deck
+RT = """#!/bin/sh
+echo "${PWD##*/} $*"
+cat
+exit "$STATUS"
+"""
+
+
+def make(target, to, *words, **how):
     """Calls make for a folder of its own; the libraries' linker is told of it as users tell it."""
-    return run("make", "-s", "-C", ROOT, target, f"PREFIX={to}", *words)
+    return run("make", "-s", "-C", ROOT, target, f"PREFIX={to}", *words, **how)
 
 
 def exported(library, *flags):
@@ -103,6 +134,67 @@ def check_library_folder(checks, folder):
     checks.expect("which leaves nothing", [], left)
 
 
+def shown_files():
+    """The pages and examples that go to the documents, from the top of the repository."""
+    files = [ROOT / "README.md", ROOT / "CHANGELOG.md", *(ROOT / "docs").glob("*.svg")]
+    files += [*(ROOT / "docs").glob("*.md"), *EXAMPLES.glob("*.*"), *EXAMPLES.glob("*/*.*")]
+    files += [ROOT / f"{it}/README.md" for it in ("bench", "python", "rustc")]
+    return {str(it.relative_to(ROOT)) for it in files} - {"examples/dump.deck"}
+
+
+def check_stage(checks, folder):
+    """Each file of a stage has its mode, whatever the caller's umask is, and the prefix gets
+    nothing: it is where the stage will be put."""
+    prefix = folder / "prefix"
+    for libraries, more in [("lib", []), ("lib/x86_64", [f"LIBDIR={prefix / 'lib/x86_64'}"])]:
+        stage = folder / "stage" / libraries.replace("/", " ")
+        words = [f"DESTDIR={stage}", *more]
+        ran = make("install", prefix, *words, umask=0o077)
+        checks.expect(f"make install into a stage, {libraries}", 0, ran.status)
+        checks.expect("what comes to the prefix itself", False, prefix.exists())
+        to = stage / prefix.relative_to("/")
+        modes = {it: it.lstat().st_mode for it in stage.rglob("*")}
+        folders = {stat.filemode(mode) for mode in modes.values() if stat.S_ISDIR(mode)}
+        checks.expect("the modes of its folders", {"drwxr-xr-x"}, folders)
+        wanted = {f"{DOCS}/{name}": READ for name in shown_files()} | {f"{DOCS}/{TRIED}": RUNS}
+        wanted |= STAGED | {f"{libraries}/{it}": mode for it, mode in STAGED_LIBRARIES.items()}
+        files = {os.path.relpath(it, to): mode for it, mode in modes.items() if not it.is_dir()}
+        for name in sorted({*wanted, *files}):
+            mode = stat.filemode(files[name]) if name in files else None
+            checks.expect(f"{name}, staged with {libraries}", wanted.get(name), mode)
+        page = text_of(to / libraries / "pkgconfig/chanv.pc")
+        begun = [f"prefix={prefix}", "includedir=${prefix}/include"]
+        begun.append(f"libdir=${{prefix}}/{libraries}")
+        checks.expect("the folders of its chanv.pc", begun, page.splitlines()[:3])
+        checks.expect("make uninstall of a stage", 0, make("uninstall", prefix, *words).status)
+        left = [it for it in stage.rglob("*") if not it.is_dir()]
+        checks.expect("what it leaves", [], left)
+
+
+def check_errors(checks, folder):
+    """If a page outside docs/ can't be copied, `make install` fails, though the next can."""
+    for name in ("bench", "python"):
+        to = folder / f"no {name}"
+        (to / DOCS).mkdir(parents=True)
+        (to / DOCS / name).write_text("a file in place of the folder\n")
+        ran = make("install", to)
+        checks.expect_that(f"make install without {name}/README.md", ran.status != 0, ran)
+
+
+def check_try(checks, folder):
+    """`make try` judges the deck with that path, and a no is no error."""
+    script = folder / "rt"
+    script.write_text(RT)
+    script.chmod(0o755)
+    words = ["make", "-s", "-C", ROOT, "try", f"DECK={SEARCH_LOOP.relative_to(ROOT)}"]
+    wanted = f"chanv try -- why\n{text_of(SEARCH_LOOP)}"
+    for status in (0, 1, 2):
+        paths = {"PATH": f"{folder}:{os.environ['PATH']}", "STATUS": str(status)}
+        ran = run(*words, env={**os.environ, **paths})
+        seen = ran.status != 0, ran.output
+        checks.expect(f"make try, of which rt says {status}", (status == 2, wanted), seen)
+
+
 def check(checks, built):
     built.library()
     shown = dict(shown_by(EMBEDDING))["./ask"]
@@ -110,7 +202,8 @@ def check(checks, built):
         check_embedding(checks, built.chanv(), Path(room))
     with tempfile.TemporaryDirectory(prefix="two words ") as room:
         folder = Path(room)
-        ran = run("make", "-s", "-f", ROOT / "Makefile", "-C", room, "install", "PREFIX=/nowhere")
+        nowhere = f"PREFIX={folder / 'nowhere'}"
+        ran = run("make", "-s", "-f", ROOT / "Makefile", "-C", room, "install", nowhere)
         checks.expect_that("says what isn't built", f"no {PROGRAM};" in ran.error, ran)
         to = folder / "opt"
         checks.expect("make install", 0, make("install", to).status)
@@ -131,8 +224,9 @@ def check(checks, built):
         deck = to / "share/doc/chanv/examples/search-loop.deck"
         ran = run(to / "bin/chanv", "verify", given=deck)
         checks.expect("an example, installed", Ran(0, "yes\n"), ran)
-        make("install", "/usr", f"DESTDIR={folder / 'stage'}")
-        checks.expect_that("a stage", (folder / "stage/usr/bin/chanv").is_file(), "not there")
+        check_stage(checks, folder)
+        check_errors(checks, folder)
+        check_try(checks, folder)
         check_library_folder(checks, folder)
         made = ["shared", "static"]
         checks.expect("make uninstall", 0, make("uninstall", to).status)
