@@ -134,8 +134,11 @@ def check_completions(checks, program):
         ["needs", "--deck", page[:-2]],
     ):
         checks.expect_that(f"a file after {words[:-1]}", page in completed(*words), words)
-    for words in (["deck", "--start"], ["why", "--of"]):
-        checks.expect(f"no file after {words[1]}", [""], completed(*words, page[:-2]))
+    for words in (["deck", "--start"], ["why", "--of"], ["show"], ["explain"], ["help"]):
+        checks.expect(f"no file after {words[-1]}", [""], completed(*words, page[:-2]))
+    ran = run_in_bash('source "$1" && complete -p chanv', COMPLETIONS)
+    wanted = Ran(0, "complete -o filenames -F _chanv chanv\n")
+    checks.expect("files are completed as file names, with a slash after a folder", wanted, ran)
 
 
 def check(checks, built):
