@@ -5,10 +5,12 @@ no at 000000 stays a no, a program of a 2311 isn't one of a 2314, each code come
 and no field is lost on the way. Lists may come from iterators, and in flight only a program counts.
 """
 
+import collections
 import copy
 import dataclasses
 import pickle
 import re
+from types import SimpleNamespace
 
 from building import ROOT
 from package import package
@@ -169,7 +171,7 @@ def check_devices(checks, chanv):
         for other in asked:
             job = job_of(chanv, LOOP, 0x800, device=other)
             line = "yes" if other == device else "no: other-device"
-            found = str(chanv.may_start(job, program))
+            found = str(chanv.may_start(job, program, []))
             checks.expect(f"a program for a {device} on a {other}", line, found)
 
 
@@ -201,7 +203,7 @@ def check_codes(checks, chanv):
     calls = [getattr(chanv, it) for it in "verify places why text open_text needs".split()]
     for changes, name, extent in FAULTS:
         job = dataclasses.replace(job_of(chanv, LOOP, 0x800), **changes)
-        for call in (*calls, may_start := lambda it: chanv.may_start(it, program)):
+        for call in (*calls, may_start := lambda it: chanv.may_start(it, program, [])):
             about = f"{name}, {'may_start' if call is may_start else call.__name__}"
             if call is may_start and name == "TOO_MANY_PLACES":
                 checks.expect(about, "yes", str(call(job)))
@@ -328,8 +330,36 @@ def check_programs(checks, chanv):
         found = error_of(lambda: chanv.may_start(job, program, in_flight))
         checks.expect(f"a start, {about}", TypeError, type(found))
     for start in (None, 0, "", [program], job):
-        found = error_of(lambda: chanv.may_start(job, start))
+        found = error_of(lambda: chanv.may_start(job, start, []))
         checks.expect(f"a start of {type(start).__name__}", TypeError, type(found))
+    looks_alike = SimpleNamespace(**vars(program))
+    found = error_of(lambda: chanv.may_start(job, looks_alike, []))
+    checks.expect("a start of what looks like a program", TypeError, type(found))
+    found = error_of(lambda: chanv.may_write((0x800, 1), [looks_alike]))
+    checks.expect("a write, what looks like a program in flight", TypeError, type(found))
+
+
+def check_tables(checks, chanv):
+    """A table of the programs in flight has to be there, and gives them each time anew."""
+    job = job_of(chanv, LOOP, 0x800)
+    program = chanv.needs(job)
+    over = chanv.needs(job_of(chanv, {0xC00: "0600080020000008"}, 0xC00))
+    ways = [list, tuple, set, collections.deque, lambda rows: dict(enumerate(rows)).values()]
+    for how in ways:
+        table = how([over])
+        for _ in range(2):
+            answers = chanv.may_start(job, program, table), chanv.may_write((0xC00, 1), table)
+            seen = [it.refusal for it in answers]
+            about = f"asked with a {type(table).__name__}"
+            checks.expect(about, ["keeps-stored-over", "writes-over-kept"], seen)
+    for how in (iter, reversed, lambda rows: (it for it in rows), lambda rows: filter(None, rows)):
+        table = how([over])
+        found = error_of(lambda: chanv.may_start(job, program, table))
+        checks.expect(f"a start beside a {type(table).__name__}", TypeError, type(found))
+        found = error_of(lambda: chanv.may_write((0xC00, 1), table))
+        checks.expect(f"a write beside a {type(table).__name__}", TypeError, type(found))
+    for ask in (lambda: chanv.may_start(job, program), lambda: chanv.may_write((0x800, 1))):
+        checks.expect("asked without a table", TypeError, type(error_of(ask)))
 
 
 def check(checks, built):
@@ -344,5 +374,6 @@ def check(checks, built):
         check_fields,
         check_jobs,
         check_programs,
+        check_tables,
     ):
         part(checks, chanv)

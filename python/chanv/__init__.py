@@ -31,7 +31,7 @@ CHANV_LIBRARY names, else the one in `lib` of the prefix where this package is i
 first call, which raises WrongLibrary if there is none of this version.
 """
 
-from collections.abc import Callable, Iterable, Iterator, Sequence
+from collections.abc import Callable, Collection, Iterator, Sequence
 from contextlib import contextmanager
 from ctypes import Array, byref, c_char_p, c_size_t, c_uint16, c_uint32, create_string_buffer
 from dataclasses import dataclass, field, fields
@@ -353,10 +353,11 @@ def needs(job: Job) -> Program:
     )
 
 
-def may_start(job: Job, program: Program, in_flight: Iterable[Program | None] = ()) -> Permission:
+def may_start(job: Job, program: Program, in_flight: Collection[Program | None]) -> Permission:
     """Whether a program may start under a job beside those in flight; None in the list is nobody.
 
-    It is `chanv_check_start`, and a yes has the premises that chanv.h lists.
+    It is `chanv_check_start`, and a yes has the premises that chanv.h lists. An iterator is no list
+    of them, but a TypeError: asked about twice, it would be empty.
     """
     out, flying = _c.Refusal(), _programs(in_flight)
     starting = byref(_made_of(program))
@@ -367,10 +368,10 @@ def may_start(job: Job, program: Program, in_flight: Iterable[Program | None] = 
     return _permission(out)
 
 
-def may_write(area: Sequence[int], in_flight: Iterable[Program | None]) -> Permission:
+def may_write(area: Sequence[int], in_flight: Collection[Program | None]) -> Permission:
     """Whether others may write to an area, a pair of start and length, now.
 
-    It is `chanv_check_write`.
+    It is `chanv_check_write`; the list is that of `may_start`.
     """
     out, flying = _c.Refusal(), _programs(in_flight)
     made = _c.Area(*_c.pairs([area], 32)[0])
@@ -449,7 +450,9 @@ def _made_of(program: Program) -> _c.Program:
     return made
 
 
-def _programs(programs: Iterable[Program | None]) -> Any:
+def _programs(programs: Collection[Program | None]) -> Any:
     """The programs in a row, with zeros for None."""
+    if isinstance(programs, Iterator):
+        raise TypeError("the programs in flight are an iterator; hand in a list or another table")
     made = [_c.Program() if it is None else _made_of(it) for it in programs]
     return (_c.Program * len(made))(*made)
