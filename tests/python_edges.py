@@ -33,6 +33,10 @@ TWO_WAYS = {
 }
 
 
+# a CCW that does nothing, and ends the program
+SHORT = "0300000020000001"
+
+
 def storage_of(words, size=SIZE):
     held = bytearray(size)
     for address, word in words.items():

@@ -26,7 +26,7 @@ from library import LINED, check_layout, check_lines, refuse_growths
 from running import run
 
 # tests of tests/run; Python loads the sanitizer before itself
-IN_PYTHON, LONG_IN_PYTHON = ["nulls", "python_edges"], ["python"]
+IN_PYTHON, LONG_IN_PYTHON = ["nulls", "python_edges", "python_calls"], ["python"]
 LONG_IN_C = ["changing", "races"]
 # the program of c/ that takes long under sanitizers
 LONG = "memory"

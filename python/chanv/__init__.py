@@ -33,7 +33,8 @@ first call, which raises WrongLibrary if there is none of this version.
 
 from collections.abc import Callable, Collection, Iterator, Sequence
 from contextlib import contextmanager
-from ctypes import Array, byref, c_char_p, c_size_t, c_uint16, c_uint32, create_string_buffer
+from ctypes import Array, byref, c_char, c_char_p, c_size_t, c_uint16, c_uint32
+from ctypes import create_string_buffer, string_at
 from dataclasses import dataclass, field, fields
 from enum import IntEnum
 from mmap import mmap
@@ -93,6 +94,9 @@ _VALUES = {
 _OVER_KEPT = "stores-over-kept keeps-stored-over writes-over-kept".split()
 _WITH_VALUE = [*"changed no-cylinder not-fetchable not-storable".split(), *_OVER_KEPT]
 _WITH_PROGRAM = [*_OVER_KEPT, "reserved-in-flight"]
+
+# the elements of the lists that `chanv_needs` writes, in order, and of the kept bytes
+_LISTED: tuple[Any, ...] = (_c.Extent, _c.Area, _c.Area, _c.Area, c_char)
 
 
 class Answer(IntEnum):
@@ -317,26 +321,18 @@ def find(storage: Storage, device: int = 2314, copy: bool = True) -> list[int]:
             room = c_size_t(len(starts))
             answer = _c.library.chanv_find(byref(image), number, starts, room, byref(count))
     _must_answer(answer, 0)
-    return list(starts)
+    return starts[: count.value]
 
 
 def needs(job: Job) -> Program:
     """What the program needs in every job and keeps, to be remembered. It raises NoJob if no job
     will do, and NoAnswer with CHANGED_MEANWHILE if storage changed during the call; so copy=False
     is safe here even while other threads write storage. Ask again then."""
-    out, answer = _c.Needed(), _c.NO_ROOM
-    lists: list[Any] = []
     with _job(job) as made:
-        while answer == _c.NO_ROOM:
-            lists = [(_c.Extent * out.extent_count)()]
-            counts = out.fetch_count, out.store_count, out.keep_count
-            lists += [(_c.Area * count)() for count in counts]
-            lists.append(create_string_buffer(out.kept_len))
-            rooms = [word for rows in lists for word in (rows, c_size_t(len(rows)))]
-            answer = _c.library.chanv_needs(byref(made), byref(out), *rooms)
+        answer, out, lists = _needed(made)
         _must_answer(answer, out.verdict.extent)
         if answer == _c.NO:
-            raise NoJob(_verdict(out.verdict), _text(_c.library.chanv_open_text, made))
+            raise _no_job(made)
     fetch, store, keep = ([(it.start, it.len) for it in areas] for areas in lists[1:4])
     return Program(
         start=made.start,
@@ -347,7 +343,7 @@ def needs(job: Job) -> Program:
         fetch=fetch,
         store=store,
         keep=keep,
-        kept=lists[4].raw,
+        kept=lists[4],
         hangs_at=out.hangs_at if out.may_hang else None,
         hangs_entered=_word("entered", out.hangs_entered) if out.may_hang else None,
     )
@@ -431,6 +427,32 @@ def _permission(out: _c.Refusal) -> Permission:
     word = _word("refusal", out.code)
     value = out.value if word in _WITH_VALUE else None
     return Permission(word, value, out.program if word in _WITH_PROGRAM else None)
+
+
+def _lengths(out: _c.Needed) -> tuple[int, ...]:
+    return out.extent_count, out.fetch_count, out.store_count, out.keep_count, out.kept_len
+
+
+def _needed(made: _c.Job) -> tuple[int, _c.Needed, list[Any]]:
+    """The answer of `chanv_needs`, and its four lists with the kept bytes. The program may shrink
+    between two calls: then the lists don't fill the room that the first call asked for."""
+    out, answer, lists = _c.Needed(), _c.NO_ROOM, list[Any]()
+    while answer == _c.NO_ROOM:
+        lists = [(kind * length)() for kind, length in zip(_LISTED, _lengths(out))]
+        rooms = [word for rows in lists for word in (rows, c_size_t(len(rows)))]
+        answer = _c.library.chanv_needs(byref(made), byref(out), *rooms)
+    return answer, out, [rows[:length] for rows, length in zip(lists, _lengths(out))]
+
+
+def _no_job(made: _c.Job) -> Error:
+    """Why no job will do. The verdict and its explanation are about one copy of storage, which
+    nothing writes; if some job will do for the copy, storage has changed."""
+    held = string_at(made.storage.at, made.storage.len)
+    made.storage = _c.bytes_at(held)
+    answer, out, _ = _needed(made)
+    if answer == _c.NO:
+        return NoJob(_verdict(out.verdict), _text(_c.library.chanv_open_text, made))
+    return NoAnswer(Answer.CHANGED_MEANWHILE if answer == _c.YES else answer)
 
 
 def _text(call: Callable[..., int], made: _c.Job) -> str:

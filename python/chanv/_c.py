@@ -165,9 +165,10 @@ class _Buffer(Structure):
     ]
 
 
-_get_buffer = pythonapi.PyObject_GetBuffer
+# by index, so that these aren't the functions that other packages set types of
+_get_buffer = pythonapi["PyObject_GetBuffer"]
 _get_buffer.argtypes = [py_object, POINTER(_Buffer), c_int]
-_release_buffer = pythonapi.PyBuffer_Release
+_release_buffer = pythonapi["PyBuffer_Release"]
 _release_buffer.argtypes = [POINTER(_Buffer)]
 _release_buffer.restype = None
 

@@ -7,7 +7,9 @@
 
 #define ENUM(type) printf("enum %s %zu\n", #type, sizeof(enum type))
 #define SIZE(type) printf("struct %s %zu\n", #type, sizeof(struct type))
-#define FIELD(type, field) printf("    %s %zu\n", #field, offsetof(struct type, field))
+#define FIELD(type, field)                                            \
+    printf("    %s %zu %zu\n", #field, offsetof(struct type, field), \
+           sizeof((struct type *)NULL)->field)
 
 int main(void)
 {
