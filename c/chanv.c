@@ -106,6 +106,13 @@ enum chanv_answer needs_by_copy(const struct chanv_job *job, uint8_t *copy, size
 
 enum { LARGEST_STORAGE = 16777216 };
 
+/* Writes the bytes between the fields of an answer, which belong to none. */
+static void clear_gap(struct chanv_needed *out)
+{
+    size_t from = offsetof(struct chanv_needed, hangs_entered) + sizeof out->hangs_entered;
+    memset((uint8_t *)out + from, 0, offsetof(struct chanv_needed, reserved) - from);
+}
+
 /* The copy is as long as storage, and what it holds doesn't matter: so it isn't zeroed, and only
  * the few pages that are written cost anything. If there is no memory, the copy has no bytes, and
  * the proved call returns CHANV_MEMORY, unless the job has a fault that comes first. */
@@ -124,6 +131,7 @@ enum chanv_answer chanv_needs(const struct chanv_job *job, struct chanv_needed *
                       extents_room, fetch, fetch_room, store, store_room, keep, keep_room, kept,
                       kept_room);
     free(made);
+    clear_gap(out);
     return answer;
 }
 
@@ -188,24 +196,25 @@ static void close_up(uint8_t *memory, const struct layout *from, const struct la
     memmove(memory + to->kept, memory + from->kept, to->end - to->kept);
 }
 
-static struct chanv_program program_at(uint8_t *memory, const struct layout *at,
-                                       const struct chanv_job *job,
-                                       const struct chanv_needed *needed)
+/* Fills a program of zeros field by field, so that the bytes between its fields stay 0. */
+static void remember(struct chanv_program *program, const uint8_t *memory, const struct layout *at,
+                     const struct chanv_job *job, const struct chanv_needed *needed)
 {
-    return (struct chanv_program){
-        .rows =
-            {
-                .extents = {(void *)(memory + at->extents), needed->extent_count},
-                .fetch = {(void *)(memory + at->fetch), needed->fetch_count},
-                .store = {(void *)(memory + at->store), needed->store_count},
-                .keep = {(void *)(memory + at->keep), needed->keep_count},
-                .storage_len = needed->storage_len,
-                .mask = needed->mask,
-            },
-        .kept = {memory + at->kept, needed->kept_len},
-        .start = job->start,
-        .device = job->device,
-    };
+    struct chanv_rows *rows = &program->rows;
+    rows->extents.at = (const void *)(memory + at->extents);
+    rows->extents.len = needed->extent_count;
+    rows->fetch.at = (const void *)(memory + at->fetch);
+    rows->fetch.len = needed->fetch_count;
+    rows->store.at = (const void *)(memory + at->store);
+    rows->store.len = needed->store_count;
+    rows->keep.at = (const void *)(memory + at->keep);
+    rows->keep.len = needed->keep_count;
+    rows->storage_len = needed->storage_len;
+    rows->mask = needed->mask;
+    program->kept.at = memory + at->kept;
+    program->kept.len = needed->kept_len;
+    program->start = job->start;
+    program->device = job->device;
 }
 
 /* Asks once if the memory is ample, and otherwise a second time with just the room that the first
@@ -231,6 +240,6 @@ enum chanv_answer chanv_take_in(const struct chanv_job *job, void *memory, size_
         return answer;
     struct layout from = layout_of(bytes, &rooms), to = layout_of(bytes, out);
     close_up(bytes, &from, &to);
-    *program = program_at(bytes, &to, job, out);
+    remember(program, bytes, &to, job, out);
     return CHANV_OK;
 }

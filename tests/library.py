@@ -1,11 +1,11 @@
 """The library for C: its example, edges, threads, refused memory and archive.
 
-The programs of c/ and examples/c/ ask it. What they should write was worked out from the rules:
-edges.out, needs.out, memory.out, threads.out and loop.out of c/; the words of src/reason.rt of
-chan_walk; and the example of docs/EMBEDDING.md, whose text has to be that of ask.c. The C of
-docs/SUPERVISOR.md compiles without a warning, and runs in c/loop.c. The archive may ask only for
-what the C library has to have, and each growth of memory in a call is refused in turn. The test
-`python` asks about all decks, `nulls` hands in NULL for each empty list.
+The programs of c/ and examples/c/ ask it. What they should write was worked out from the rules: the
+files c/*.out; the words of src/reason.rt of chan_walk; and the example of docs/EMBEDDING.md, whose
+text has to be that of ask.c. The C of docs/SUPERVISOR.md compiles without a warning, and runs in
+c/loop.c. The archive may ask only for what the C library has to have, and each growth of memory in
+a call is refused in turn. The test `python` asks about all decks, `nulls` hands in NULL for each
+empty list.
 """
 
 import re
@@ -20,7 +20,7 @@ from running import Ran, run, text_of
 
 # the programs whose calls get too little room, foreign rows or threads run under the sanitizers
 LINED = ("edges", "needs", "memory", "threads")
-TESTS = ("one_call", *LINED)
+TESTS = ("one_call", "bytes", *LINED)
 SOURCES = [EXAMPLES / "c/ask.c", *[HERE / f"c/{name}.c" for name in TESTS]]
 MAY_ASK_FOR = {"memcpy", "memmove", "memset", "malloc", "realloc", "free"}
 OF_THE_RUNTIME = {"rattle_alloc", "rattle_realloc", "rattle_dealloc"}
@@ -234,7 +234,7 @@ def check(checks, built):
         check_example(checks, folder)
         check_loop(checks, library, folder)
         check_edges(checks, folder)
-        for name in LINED[1:]:
+        for name in (*LINED[1:], "bytes"):
             check_lines(checks, folder, name)
         check_layout(checks, library, folder)
         check_warnings(checks, library)

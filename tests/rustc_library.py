@@ -4,8 +4,8 @@ The Rust part is built under AddressSanitizer, with each overflow and each asser
 library checked; the C file and the programs of c/ are under UndefinedBehaviorSanitizer too. The
 programs of c/ have to write over it what they write over the proved library, and tests of Python
 run over it; if RUSTC_JOBS is set, as in the gate, so do those that take long: rooms of all sizes,
-the rest of Python, races of 5 seconds, and programs that change. Each growth of memory is refused, without
-sanitizers, which have their own memory.
+the rest of Python, races of 5 seconds, and programs that change. Without sanitizers, which have
+their own memory, each growth of memory is refused, and the bytes between fields are looked at.
 
 Without cargo or the crates the test is left out, by its name. If this compiler has no
 AddressSanitizer, all runs without sanitizers, and that is named too.
@@ -58,10 +58,13 @@ def check_programs(checks, library, room, is_whole):
             check_lines(checks, room, name)
 
 
-def check_growths(checks, room):
+def check_plain(checks, room):
+    """What sanitizers would hide: bytes of the stack in an answer, and refused memory."""
     plain = cargo.library()
     check_layout(checks, plain, room)
-    compile_with(plain, HERE / "c/one_call.c", room / "one_call")
+    for name in ("one_call", "bytes"):
+        compile_with(plain, HERE / f"c/{name}.c", room / name)
+    check_lines(checks, room, "bytes")
     refuse_growths(checks, room)
 
 
@@ -99,5 +102,5 @@ def check(checks, built):
     library, is_whole = library_under_test(checks), bool(os.environ.get("RUSTC_JOBS"))
     with tempfile.TemporaryDirectory() as room:
         check_programs(checks, library, Path(room), is_whole)
-        check_growths(checks, Path(room))
+        check_plain(checks, Path(room))
     check_tests(checks, library, built.chanv(), is_whole)

@@ -1,0 +1,77 @@
+/* Every byte of an answer is written, also between the fields: none keeps what the caller had there,
+ * and none is what was left on the stack. Before each call both are filled, each time with another
+ * byte. It prints a line for each byte between fields that isn't 0. */
+#include "asking.h"
+
+/* Bytes between two fields, or after the last. */
+struct gap {
+    size_t from, past;
+};
+
+#define PAST(type, field) (offsetof(struct type, field) + sizeof((struct type *)NULL)->field)
+#define BETWEEN(type, field, next) {PAST(type, field), offsetof(struct type, next)}
+
+static const struct gap of_needed[] = {BETWEEN(chanv_needed, hangs_entered, reserved)};
+static const struct gap of_program[] = {BETWEEN(chanv_program, device, reserved),
+                                        {PAST(chanv_rows, mask), sizeof(struct chanv_rows)}};
+
+static void __attribute__((noinline)) paint_stack(uint8_t byte)
+{
+    volatile uint8_t stack[0x4000];
+    for (size_t i = 0; i < sizeof stack; i++)
+        stack[i] = byte;
+}
+
+static void look(const char *name, const void *answer, const struct gap *gaps, size_t count)
+{
+    const uint8_t *bytes = answer;
+    for (const struct gap *gap = gaps; gap < gaps + count; gap++)
+        for (size_t i = gap->from; i < gap->past; i++)
+            if (bytes[i] != 0)
+                printf("%s: byte %zu is %02X\n", name, i, bytes[i]);
+}
+
+#define LOOK(name, answer, gaps) look(name, answer, gaps, sizeof gaps / sizeof *gaps)
+
+static void ask_needs(const char *name, const struct chanv_job *job, uint8_t byte)
+{
+    struct chanv_needed needed;
+    memset(&needed, byte, sizeof needed);
+    paint_stack(byte);
+    enum chanv_answer answer =
+        chanv_needs(job, &needed, NULL, 0, NULL, 0, NULL, 0, NULL, 0, NULL, 0);
+    printf("%s: needs %u\n", name, answer);
+    LOOK(name, &needed, of_needed);
+}
+
+static void take_in(const char *name, const struct chanv_job *job, size_t room, uint8_t byte)
+{
+    static uint8_t memory[512];
+    struct chanv_program program;
+    struct chanv_needed needed;
+    size_t len;
+    memset(&program, byte, sizeof program), memset(&needed, byte, sizeof needed);
+    paint_stack(byte);
+    enum chanv_answer answer = chanv_take_in(job, memory, room, &len, &program, &needed);
+    printf("%s: take in %u\n", name, answer);
+    LOOK(name, &needed, of_needed);
+    LOOK(name, &program, of_program);
+}
+
+int main(void)
+{
+    static const uint8_t fills[] = {0x77, 0xEE};
+    for (size_t i = 0; i < sizeof fills; i++) {
+        struct chanv_job job = generous();
+        fill(search_loop);
+        ask_needs("the search loop", &job, fills[i]);
+        take_in("with much room", &job, 512, fills[i]);
+        take_in("with just enough room", &job, 51, fills[i]);
+        take_in("with too little room", &job, 50, fills[i]);
+        job.start = 0x804;
+        ask_needs("a misaligned start", &job, fills[i]);
+        job.device = 3330;
+        take_in("no device", &job, 512, fills[i]);
+    }
+    return 0;
+}
