@@ -6,7 +6,8 @@ call in turn. Then storage is quiet: if the program may start, its verdict has t
 is remembered has to be what quiet storage gives. A call that says that storage changed allows
 nothing; it never comes over quiet storage, and some store brings it about. Each allocation refused
 gives CHANV_MEMORY, and nothing is written. And a start is asked about while a program in the table
-stores: into other bytes, which never matters, and over the new program, which always does.
+stores: into other bytes, which never matters, and over the new program, which always does. With
+just enough memory the call asks twice: what it leaves behind is looked at for each store.
 """
 
 import re
@@ -26,6 +27,7 @@ WRAPPED = "-Wl,--wrap=malloc,--wrap=realloc"
 
 LINE = r"(\w+), \d+ places: (\d+) taken in, (\d+) changed, (\d+) started, of which 0 wrongly and 0 "
 LINE += r"with other needs; 0 wrong refusals"
+ROOM_LINE = r"(?m)^room: (\d+) taken in, (\d+) without room, (\d+) changed, 0 wrong$"
 
 
 def check_size(checks, places, rounds, ran):
@@ -40,6 +42,9 @@ def check_size(checks, places, rounds, ran):
         checks.expect_that(f"a change is noticed in {name}", found["growths"][1] > 0, found)
     starts = f"start, {places} places: 0 refused beside stores, 0 granted over them\n"
     checks.expect_that(f"starts of {name}", starts in ran.output, ran)
+    [counts] = re.findall(ROOM_LINE, ran.output) or [()]
+    is_so = counts != () and all(int(count) > 0 for count in counts)
+    checks.expect_that("each answer of a call that asks twice leaves what it should", is_so, ran)
 
 
 def check(checks, built):
@@ -48,6 +53,7 @@ def check(checks, built):
         made = Path(room) / "changing"
         program = compile_with(library, HERE / "c/changing.c", made, WRAPPED)
         with ThreadPoolExecutor(max_workers=AT_ONCE) as beside:
-            words = [[program, str(places), str(rounds), *MODES, "start"] for places, rounds in SIZES]
+            more = [*MODES, "start", "room"]
+            words = [[program, str(places), str(rounds), *more] for places, rounds in SIZES]
             for (places, rounds), ran in zip(SIZES, beside.map(lambda it: run(*it), words)):
                 check_size(checks, places, rounds, ran)

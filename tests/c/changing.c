@@ -16,10 +16,12 @@
  *              then that allocation is refused
  *     start    the program is taken in while storage is quiet, and `chanv_check_start` is asked
  *              while a program in the table stores: into other bytes, and over the new program
+ *     room     there is just enough memory for A, so the call asks twice, and B needs more: it is
+ *              stored at each allocation of the call in turn
  *
  * A line for each mode says what came of its rounds. The status is 1 if a program that was never
- * judged started, if needs were wrong, or if a refused allocation left anything behind; or if a
- * store into other bytes keeps the program from its start, or a store over it doesn't.
+ * judged started, if needs were wrong, or if a refused allocation or a change left anything behind;
+ * or if a store into other bytes keeps the program from its start, or a store over it doesn't.
  */
 #define _POSIX_C_SOURCE 200809L
 #include "asking.h"
@@ -88,6 +90,15 @@ static void begin_link(int places)
     put(LENT + 0x820, 0x0096000000000000);
     a = (struct word){leaf + 8, 0x0000000000000004 | (uint64_t)(LENT + 0x810) << 32};
     b = (struct word){leaf + 8, 0x0000000000000004 | (uint64_t)(LENT + 0x820) << 32};
+}
+
+/* A read. B goes on to a seek, so it needs a cylinder, and keeps more. */
+static void begin_short(void)
+{
+    a = (struct word){START, 0x0600000000000008 | (uint64_t)LENT << 32};
+    b = (struct word){START, 0x0600000040000008 | (uint64_t)LENT << 32};
+    put(START + 8, 0x0700000000000006 | (uint64_t)(LENT + 0x800) << 32);
+    put(LENT + 0x800, 0x0000000A00000000);
 }
 
 /* ---- allocations: tests/changing.py links these in place of malloc and realloc */
@@ -284,6 +295,48 @@ static int try_growths(void)
     return failed;
 }
 
+/* Whether the call left what its answer says, if A takes just so much memory: the program of A;
+ * how much more B takes; or nothing at all. */
+static int is_left(enum chanv_answer answer, size_t just, size_t len,
+                   const struct chanv_program *program, const struct chanv_needed *needed)
+{
+    static const struct chanv_program none;
+    static const struct chanv_needed nothing;
+    if (answer == CHANV_OK)
+        return len == just && program->kept.len == 8 && needed->kept_len == 8;
+    int is_empty = is_same(program, &none, sizeof none) && is_untouched(memory, memory + just);
+    if (answer == CHANV_NO_ROOM)
+        return is_empty && len > just && needed->extent_count == 1;
+    return answer == CHANV_CHANGED_MEANWHILE && is_empty && len == 0
+           && is_same(needed, &nothing, sizeof nothing);
+}
+
+/* Takes A in with just enough memory, while B comes at each allocation in turn. */
+static int try_room(void)
+{
+    int wrong = 0;
+    size_t just, len;
+    long counts[CHANV_CHANGED_MEANWHILE + 1] = {0};
+    struct chanv_program program;
+    struct chanv_needed needed;
+    put_word(a), grown = 0;
+    if (chanv_take_in(&job, NULL, 0, &just, &program, &needed) != CHANV_NO_ROOM)
+        exit(2);
+    /* each of the two questions makes so many allocations, and at last B doesn't come */
+    for (long growths = 2 * grown, growth = 1; growth <= growths + 1; growth++) {
+        put_word(a), grown = 0, stored_at = growth;
+        memset(memory, UNTOUCHED, just), memset(&program, UNTOUCHED, sizeof program);
+        memset(&needed, UNTOUCHED, sizeof needed), len = UNTOUCHED;
+        enum chanv_answer answer = chanv_take_in(&job, memory, just, &len, &program, &needed);
+        stored_at = 0;
+        wrong += !is_left(answer, just, len, &program, &needed);
+        counts[answer <= CHANV_CHANGED_MEANWHILE ? answer : CHANV_MEMORY]++;
+    }
+    printf("room: %ld taken in, %ld without room, %ld changed, %d wrong\n", counts[CHANV_OK],
+           counts[CHANV_NO_ROOM], counts[CHANV_CHANGED_MEANWHILE], wrong);
+    return wrong != 0;
+}
+
 /* Asks whether the program may start while another in the table stores A and B by turns into an
  * area, into which it may store. */
 static void ask_beside(const struct chanv_program *program, struct chanv_area area, int rounds,
@@ -340,11 +393,14 @@ int main(int argc, char **argv)
             begin_seek(places);
         else if (strcmp(argv[i], "link") == 0 || strcmp(argv[i], "growths") == 0)
             begin_link(places);
+        else if (strcmp(argv[i], "room") == 0)
+            begin_short();
         else
             begin_plain(places);
         put_word(a);
-        if (strcmp(argv[i], "start") == 0) {
-            is_wrong |= try_starts(places, rounds);
+        int is_start = strcmp(argv[i], "start") == 0;
+        if (is_start || strcmp(argv[i], "room") == 0) {
+            is_wrong |= is_start ? try_starts(places, rounds) : try_room();
             continue;
         }
         if (strcmp(argv[i], "growths") == 0)
