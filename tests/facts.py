@@ -9,7 +9,8 @@ the jobs of `model` and `peer`.
 
 Two facts are in two places of the sources, because C has to be told, and because a constant text of
 the language can't be put together of others: the numbers of the header with the largest storage,
-and lines of the usage.
+and lines of the usage. The header's comments say numbers again, and what a caller must do before a
+yes counts, which a page says in the same words.
 """
 
 import re
@@ -29,6 +30,20 @@ IN_SHORT = [
     "the arm is inside the job's extents, and the job's file mask is in force",
     "From the question until the program has left, nothing else changes a byte that it keeps",
     "not even the machine, which stores PSWs, the CSW and the timer in low storage",
+]
+
+
+# what the header asks of a caller beside the premises, and the page that asks it in the same words
+ASKED = [
+    ("EMBEDDING.md", "nothing may write storage: ask about quiet storage, or about a copy"),
+    ("EMBEDDING.md", "what the call judges is what the copy holds"),
+    ("SUPERVISOR.md", "Only CHANV_OK allows anything"),
+    (
+        "EMBEDDING.md",
+        "only after CHANV_YES from chanv_check_write, asked with the program in the table",
+    ),
+    ("EMBEDDING.md", "any other code except 4 to 7"),
+    ("EMBEDDING.md", "Pass room 0 to skip a path"),
 ]
 
 
@@ -62,6 +77,31 @@ def check_premises(checks):
         text = plain(text).lower()
         for words in IN_SHORT:
             checks.expect_that(f"{name} says: {words}", words.lower() in text, text)
+
+
+def check_duties(checks):
+    """The header asks of a caller what the pages ask, and the row of a write that lasts is that of
+    SUPERVISOR's C."""
+    header = plain(text_of(HEADER))
+    for page, words in ASKED:
+        checks.expect_that(f"the header says: {words}", words in header, words)
+        checks.expect_that(f"{page} says: {words}", words in plain(text_of(DOCS / page)), words)
+    page = text_of(DOCS / "SUPERVISOR.md")
+    entered = re.findall(r"in_flight\[row\]\.(rows\.\w+)\.at = area;", page)
+    told = re.findall(r"a program whose (\S+) is the area, and which is zero otherwise", header)
+    checks.expect("the row of a write that lasts", entered, told)
+
+
+def check_comments(checks):
+    """The numbers in the header's comments: which codes are faults, and how large things may be."""
+    header = plain(text_of(HEADER))
+    shown = re.findall(r"(?m)^number (\d+): \S+ \(a fault\)", text_of(ROOT / "tests/c/edges.out"))
+    told = re.findall(r"(\d+) to (\d+)(?:,? or| and) (\d+)", header)
+    sets = [{*range(int(first), int(last) + 1), int(one)} for first, last, one in told]
+    checks.expect("the faults", [{int(code) for code in shown}] * 3, sets)
+    limits = dict(re.findall(r"(\w+) = (\d{4,})", text_of(HEADER) + text_of(ROOT / "c/chanv.c")))
+    sizes = {f"{int(limits[it]):,}" for it in ("LARGEST_STORAGE", "CHANV_LARGEST_LIMIT")}
+    checks.expect("the sizes", sizes, {*re.findall(r"\d+(?:,\d{3})+", header)})
 
 
 def check_reasons(checks):
@@ -198,6 +238,8 @@ def check_kit(checks):
 
 def check(checks, _built):
     check_premises(checks)
+    check_duties(checks)
+    check_comments(checks)
     check_reasons(checks)
     check_choices(checks)
     check_answers(checks)

@@ -15,19 +15,19 @@
  * - From the call to its return, nothing else writes the job, the table, or the lists and the kept
  *   bytes that these point to, and nothing else touches the memory that the call writes.
  * - Storage is another matter, because channels in flight store into it at any time:
- *   - During `chanv_needs` and `chanv_take_in` anything may write storage. The answer is about a
- *     private copy, each byte of which the call reads once. If storage changed too much for that,
- *     the call returns CHANV_CHANGED_MEANWHILE: ask again, but not without end, and then refuse the
- *     program. Of all answers only CHANV_OK allows anything.
+ *   - During `chanv_needs` and `chanv_take_in` anything may write storage. CHANV_OK is about a
+ *     private copy of the kept bytes: what the call judges is what the copy holds. If storage
+ *     changed too much for that, the call returns CHANV_CHANGED_MEANWHILE: ask again, but not
+ *     without end, and then refuse the program. Only CHANV_OK allows anything.
  *   - From the beginning of `chanv_check_start` until the program has left, only programs that are
  *     in the table throughout write its kept bytes, and others only after CHANV_YES from
  *     `chanv_check_write`, asked with the program in the table. All other bytes may change at any
  *     time.
  *   - `chanv_check_write` doesn't read storage.
  *   - During `chanv_verify`, `chanv_why`, `chanv_list`, `chanv_find` and the calls for texts
- *     nothing writes storage: ask about quiet storage, or about a copy. If storage is written, the
- *     answer means nothing. The call still returns with one of its codes and writes nothing else;
- *     this is tested, not proved.
+ *     nothing may write storage: ask about quiet storage, or about a copy. Otherwise the answer
+ *     means nothing. The call still returns with one of its codes and writes nothing else; this is
+ *     tested, not proved.
  * - No call is made from a signal handler, nor, in the child of a process with threads, between
  *   fork and exec.
  * - malloc, realloc and free are those of one allocator, and aligned as C asks.
