@@ -2,7 +2,9 @@
 
 What is expected was worked out from the rules and from the header. Every way of asking is tried: a
 no at 000000 stays a no, a program of a 2311 isn't one of a 2314, each code comes with its extent,
-and no field is lost on the way. Lists may come from iterators, and in flight only a program counts.
+and no field is lost on the way. Each number of the header's enums means what its name says, and its
+comments say what comes. Lists may come from iterators, except the table of the programs in flight,
+in which only a program counts.
 """
 
 import collections
@@ -253,6 +255,73 @@ def check_limit(checks, chanv):
         checks.expect(f"{count} places", wanted, code)
 
 
+# ---- what the header says
+
+# the front of a number's name in the header, and the words that the rest isn't
+WORDS = {"reason": "REASON_", "refusal": "REFUSED_", "entered": "ENTERED_"}
+OTHER_WORDS = {"REFUSED_RESERVED": "reserved-not-zero"}
+OTHER_WORDS |= {f"ENTERED_CHAIN_{it}": it.lower() for it in ("IN", "OUT", "SEARCH")}
+# arguments of a seek, and the part of each that isn't allowed with its value
+PARTS = [("0001000A0000", "PART_BIN", 1), ("000000140000", "PART_CYLINDER", 20)]
+PARTS.append(("0000000A0014", "PART_HEAD", 20))
+
+
+def check_numbers(checks, chanv):
+    """Each number of an enum means what its name says."""
+    numbers = {name: int(it) for name, it in re.findall(r"CHANV_(\w+) = (\d+)", text_of(HEADER))}
+    for kind, front in WORDS.items():
+        names = [name for name in numbers if name.startswith(front)]
+        checks.expect_that(f"the header has numbers {front}", len(names) > 3, names)
+        for name in names:
+            word = OTHER_WORDS.get(name, name.removeprefix(front).lower().replace("_", "-"))
+            checks.expect(f"the word of {name}", word, chanv._word(kind, numbers[name]))
+    largest = numbers["LARGEST_LIMIT"]
+    found = error_of(lambda: chanv.verify(job_of(chanv, LOOP, 0x800, limit=largest)))
+    checks.expect("the largest limit", "yes", str(found))
+    found = error_of(lambda: chanv.verify(job_of(chanv, LOOP, 0x800, limit=largest + 1)))
+    check_no_answer(checks, chanv, "a larger limit", found, "NOT_A_LIMIT", 0)
+    for argument, part, value in PARTS:
+        words = {0x800: "0700090040000006", 0x808: SHORT, 0x900: f"{argument}0000"}
+        told = chanv.why(job_of(chanv, words, 0x800, extents=[(10, 19)]))
+        seen = told.verdict.reason, told.values["outside"], told.values["value"]
+        checks.expect(f"a seek to {argument}", ("seek-outside", numbers[part], value), seen)
+
+
+def check_comments(checks, chanv):
+    """The header's table of values, and its numbers for the taker, are those of the package."""
+    header = text_of(HEADER)
+    names = {name for name, *_ in chanv._c.Evidence._fields_}
+    rows = re.findall(r"(?m)^ \*  +\d+  ([a-z-]+)(.*(?:\n \* {20,}.*)*)", header)
+    told = {word: {*re.findall(r"\w+", text)} & names for word, text in rows}
+    values = {word: {*names.split()} for word, names in chanv._VALUES.items()}
+    checks.expect("the values of each reason", told, values)
+    told = re.findall(r"(\d) if (?:the taker|it) is a (Set File Mask|seek)", header)
+    checks.expect("whose number sets_mask has", ["Set File Mask", "seek"], [it for _, it in told])
+    for number, taker in told:
+        ccw = {"Set File Mask": "1F00090000000001", "seek": "0700090000000006"}[taker]
+        why = chanv.why(job_of(chanv, {0x800: "0600090040000001", 0x808: ccw}, 0x800))
+        seen = why.verdict.reason, why.values["sets_mask"]
+        checks.expect(f"sets_mask of a {taker}", ("changes-argument", int(number)), seen)
+
+
+def check_order(checks, chanv):
+    """Of several bytes and of both conflicts a start names the one that the header says."""
+    comment = re.search(r"(?s)Why a program may not start(.*?)\*/", text_of(HEADER))[1]
+    [first] = re.findall(r"looks\s+\*?\s*for (\d+) and then for \d+ at each", comment)
+    over = {start: f"06{other:06X}20000008" for start, other in ((0x800, 0xC00), (0xC00, 0x800))}
+    one, other = (chanv.needs(job_of(chanv, over, start)) for start in over)
+    found = chanv.may_start(job_of(chanv, over, 0x800), one, [other]).refusal
+    checks.expect("both conflicts with one program", chanv._word("refusal", int(first)), found)
+    ends = {"first": 0x900, "least": 0x900, "greatest": 0x904}
+    for name, kind in (("FETCHABLE", "fetch"), ("STORABLE", "store")):
+        word = re.search(rf"NOT_{name} = .*?the (\w+) byte", text_of(HEADER))[1]
+        ccw = {"fetch": "3100090020000005", "store": "0600090020000005"}[kind]
+        program = chanv.needs(job_of(chanv, {0x800: ccw}, 0x800))
+        job = job_of(chanv, {0x800: ccw}, 0x800, **{kind: [(0x901, 3)]})
+        found = chanv.may_start(job, program, []).value
+        checks.expect(f"the {word} byte that isn't lent, {kind}", ends[word], found)
+
+
 # ---- each field
 
 # a program in which no two fields are alike
@@ -375,6 +444,9 @@ def check(checks, built):
         check_devices,
         check_codes,
         check_limit,
+        check_numbers,
+        check_comments,
+        check_order,
         check_fields,
         check_jobs,
         check_programs,

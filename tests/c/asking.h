@@ -85,8 +85,8 @@ static inline const char *take_fault_away(int step, struct chanv_job *job)
     case 4: return job->extents = (struct chanv_extents){backwards, 3}, "extents, backwards first";
     case 5: return job->extents = (struct chanv_extents){past, 4}, "extents, past the device first";
     case 6: return job->extents.len = 2, "right extents";
-    case 7: return job->limit = 65537, "a limit that is too large";
-    case 8: return job->limit = 65536, "a limit, and what is reserved";
+    case 7: return job->limit = CHANV_LARGEST_LIMIT + 1, "a limit that is too large";
+    case 8: return job->limit = CHANV_LARGEST_LIMIT, "a limit, and what is reserved";
     default: return NULL;
     }
 }

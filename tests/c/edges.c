@@ -249,6 +249,37 @@ static void list_with_little_room(void)
     list("three places where two are allowed", job, rows, 4);
 }
 
+static void print_part(const struct chanv_evidence *values)
+{
+    switch (values->outside) {
+    case CHANV_PART_BIN: printf("bin %" PRIu32 "\n", values->value); break;
+    case CHANV_PART_CYLINDER: printf("cylinder %" PRIu32 "\n", values->value); break;
+    case CHANV_PART_HEAD:
+        printf("head %" PRIu32 " of %" PRIu32 "\n", values->value, values->below);
+        break;
+    default: printf("no part\n");
+    }
+}
+
+/* Seeks of which a part of the argument isn't allowed: the bin, the cylinder or the head. */
+static void ask_about_parts(void)
+{
+    static const uint64_t arguments[] = {0x0001000A00000000, 0x0000001400000000,
+                                         0x0000000A00140000};
+    for (size_t i = 0; i < sizeof arguments / sizeof *arguments; i++) {
+        const struct word seek[] = {{0x800, 0x0700090040000006},
+                                    {0x808, 0x0300000020000001},
+                                    {0x900, arguments[i]},
+                                    {0, 0}};
+        struct chanv_explanation told;
+        fill(seek);
+        enum chanv_answer answer = chanv_why(&good, NULL, 0, NULL, 0, &told);
+        printf("a seek to %012" PRIX64 ": why %u, %s, ", arguments[i] >> 16, answer,
+               chanv_reason_word(told.verdict.reason));
+        print_part(&told.evidence);
+    }
+}
+
 static void ask_at_the_limits(void)
 {
     struct chanv_job job = {
@@ -260,14 +291,14 @@ static void ask_at_the_limits(void)
         put(0x1000 + 8 * i, 0x0300000040000001);
     put(0x1000 + 8 * 65537, 0x0300000000000001);
     job.start = 0x1000 + 8 * 2;
-    job.limit = 65536;
+    job.limit = CHANV_LARGEST_LIMIT;
     ask("65,536 places", job);
     job.start -= 8;
     ask("65,537 places", job);
     job.start = 0x1000 + 8 * (65537 - 4095);
-    job.limit = 4096;
+    job.limit = CHANV_USUAL_LIMIT;
     ask("4,096 places", job);
-    job.limit = 4095;
+    job.limit = CHANV_USUAL_LIMIT - 1;
     ask("4,096 places, one fewer allowed", job);
 }
 
@@ -280,6 +311,7 @@ int main(void)
     ask_with_another_value();
     ask_with_faults();
     list_with_little_room();
+    ask_about_parts();
     ask_at_the_limits();
     for (uint32_t reason = 0; reason < 18; reason++)
         printf("reason %" PRIu32 ": %s\n", reason, chanv_reason_word(reason));

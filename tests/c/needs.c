@@ -243,6 +243,8 @@ static void ask_with_faults(void)
         printf("; ");
         ask("its program", job, room, &told);
     }
+    fill(search_loop), memset(job.reserved, 0, sizeof job.reserved);
+    ask("16 MiB of storage, and no fault", job, room, &told);
 }
 
 static void try_changed(const char *name, const struct chanv_job *job,
