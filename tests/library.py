@@ -162,8 +162,9 @@ TELLS_APART = "enum one { A }; enum other { B }; enum one f(void); int g(void) {
 
 
 def mistakes_of(call):
-    """The call compared with what isn't an answer, and with NULL where it mustn't be, each with the
-    warning that finds it."""
+    """The call whose answer is ignored, or compared with what isn't an answer, and with NULL where
+    it mustn't be, each with the warning that finds it."""
+    yield f"({call}, 0)", "unused-result"
     yield f"{call} == CHANV_REASON_MISALIGNED", "enum-compare"
     yield f"{call} == CHANV_REFUSED_WRITES_OVER_KEPT", "enum-compare"
     for pointer in dict.fromkeys(re.findall(r"&[\w.]+", call)):
@@ -172,10 +173,10 @@ def mistakes_of(call):
 
 
 def check_mistakes(checks, library, folder):
-    """A compiler finds an answer that is compared with something else, and NULL where it mustn't
-    be; and it finds no fault with NULL where it may be."""
-    source = folder / "mistake.c"
-    look = [*c_compiler(), "-fsyntax-only", f"-I{library}", "-std=c11", "-Wall", "-Wextra"]
+    """A compiler finds an answer that is ignored or compared with something else, and NULL where it
+    mustn't be; and it finds no fault with NULL where it may be."""
+    source, made = folder / "mistake.c", folder / "mistake.o"
+    look = [*c_compiler(), "-c", "-o", made, f"-I{library}", "-std=c11", "-Wall", "-Wextra"]
     source.write_text(TELLS_APART)
     tells_apart = "[-Wenum-compare]" in run(*look, source).error
     if not tells_apart:
