@@ -5,7 +5,8 @@ unit tests pass. Both programs write the same with the same status over all exam
 damaged and refused decks, random jobs of the model, their storage as images, each command line,
 each word and each code. So a fault of the kit's compiler or library shows, unless Rust's has the
 same. Usage faults are compared by status: their words are those of clap, whose versions differ.
-Each growth of memory is refused too.
+Each growth of memory is refused too, and streams are full, closed or unread. What the script of
+rustc/ strips, writes and names is looked at by itself.
 
 RUSTC_JOBS says how many random jobs there are. Without it there are few, and only one command is
 refused memory: all takes two minutes of a processor, and this half of that, most of it the build.
@@ -15,22 +16,23 @@ Without cargo or the crates the test is left out, by its name.
 import os
 import re
 import shlex
+import subprocess
 import tempfile
 from concurrent.futures import ThreadPoolExecutor
 from pathlib import Path
 from random import Random
 
 from answers import make_inputs
-from building import ROOT, version
-from cargo import CHECKED, cargo, missing, program, workspace
+from building import ROOT, short, version
+from cargo import CHECKED, cargo, missing, program, stripping, workspace
 from command_lines import runs
-from examples import EXAMPLES, FOLDERS, TEXTS, decks_of
+from examples import EXAMPLES, FOLDERS, SEARCH_LOOP, TEXTS, decks_of
 from expecting import Checks
 from model import SEED, deck_of, jobs_of
 from refused_decks import refused
 from refused_memory import advice_cases, command_cases
 from refusing import Growths
-from running import Ran, run, text_of
+from running import Ran, run, run_in_bash, text_of
 from speed import decks_of_bench
 
 FEW = 300
@@ -52,7 +54,21 @@ LARGE = ["places", "loops", "chain", "ring", "comb", "offends"]
 # the start in an image that isn't of a job
 START = 0x800
 
+# the function that the script makes of `main`
+BEGUN = "begun"
+
 EACH = '"$1" {} 2>&1 < /dev/null; echo "status $?"\n'
+
+# streams that are full, closed or a folder, for a program and a deck
+STREAMS = [
+    '"$1" list "$2" > /dev/full',
+    '"$1" list "$2" >&-',
+    '"$1" list "$2" missing.deck 2>&-',
+    '"$1" list <&-',
+    '"$1" list < /',
+    '"$1" --help > /dev/full',
+    'exec "$1" list < "$2" 1<&0',
+]
 
 
 def as_chanv(program, room):
@@ -148,6 +164,65 @@ def check_command_lines(checks, programs, folder):
         checks.expect(f"{words} < {given}", *both)
 
 
+def into_closed_pipe(program):
+    """What comes of a program whose standard output is a pipe that nothing reads."""
+    reader, writer = os.pipe()
+    os.close(reader)
+    words = [program, "list", SEARCH_LOOP]
+    ran = subprocess.run(words, stdout=writer, stderr=subprocess.PIPE, timeout=60)
+    os.close(writer)
+    return ran.returncode, text_of(ran.stderr)
+
+
+def check_streams(checks, programs):
+    for script in STREAMS:
+        checks.expect(script, *(run_in_bash(script, it, SEARCH_LOOP) for it in programs))
+    checks.expect("a pipe that nothing reads", *map(into_closed_pipe, programs))
+
+
+def check_sources(checks, strip):
+    """What is stripped has its functions in the lines of the .rt file."""
+    for path in sorted((ROOT / "crates").glob("*/src/**/*.rt")):
+        text = text_of(path)
+        lines, left = text.split("\n"), strip.strip(text).split("\n")
+        checks.expect(f"the lines of {short(path)}", len(lines), len(left))
+        moved = [
+            name
+            for line, other in zip(lines, left)
+            for name in re.findall(r"\bfn (\w+)", other)
+            if name not in line and name != BEGUN
+        ]
+        checks.expect(f"functions in other lines of {short(path)}", [], moved)
+
+
+def check_packages(checks, strip):
+    """Where nothing is installed the script names what the workspace and its shims use, and README
+    the compiler."""
+    shims = [text_of(path) for path in (ROOT / "rustc/shims").glob("*/Cargo.toml")]
+    wrapped = {name for text in shims for name in re.findall(r'package = "(\w+)"', text)}
+    wanted = {f"librust-{name}-dev" for name in {*strip.REAL} | wrapped}
+    page, (first, second) = text_of(ROOT / "rustc/README.md"), strip.OLDEST
+    said = re.findall(r"Rust (\S+) or later serves: on\nDebian 12 the packages (.*)\.", page)
+    names = " and ".join(f"`{name}`" for name in strip.COMPILER)
+    checks.expect("the compiler of README", [(f"{first}.{second}", names)], said)
+    with tempfile.TemporaryDirectory() as room:
+        strip.DEBIAN = Path(room)
+        checks.expect("the packages of Debian", wanted, {*strip.packages()} - {*strip.COMPILER})
+
+
+def check_rewriting(checks, strip):
+    """A changed source is written again, an unchanged one isn't, and other crates lock anew."""
+    with tempfile.TemporaryDirectory() as room:
+        folder = Path(room)
+        done = [strip.write(folder / "a/lib.rs", text) for text in ("one", "one", "two")]
+        seen = done, text_of(folder / "a/lib.rs")
+        checks.expect("a source, written three times", ([True, False, True], "two"), seen)
+        for crates, is_left in ((None, False), (None, True), ("/crates", False), ("/crates", True)):
+            (folder / "Cargo.lock").touch()
+            strip.write_source(folder, crates)
+            checks.expect(f"the lock over {crates}", is_left, (folder / "Cargo.lock").exists())
+
+
 def check_unit_tests(checks):
     sources = [text_of(path) for path in (ROOT / "crates/unit_tests/src").rglob("*.rt")]
     ran = run("cargo", "test", *CHECKED, "-p", "unit_tests", cwd=workspace(), timeout=None)
@@ -162,6 +237,17 @@ def growths_of(case):
     with tempfile.TemporaryDirectory() as room:
         Growths(room).refuse_each(checks, case)
     return checks
+
+
+def check_next_deck(checks, plain):
+    """Memory that is refused over one deck is an error there, and the next gets its answer."""
+    words = [plain, "verify", SEARCH_LOOP, SEARCH_LOOP]
+    wanted = Ran(3, f"{SEARCH_LOOP}: yes\n", f"chanv: {SEARCH_LOOP}: out of memory\n")
+    with tempfile.TemporaryDirectory() as room:
+        growths = Growths(room)
+        _, count = growths.run(words)
+        found = {growths.run(words, refused=number)[0] for number in range(1, count + 1)}
+    checks.expect_that("memory refused over one of two decks", wanted in found, found)
 
 
 def check_growths(checks, plain, is_whole):
@@ -179,12 +265,16 @@ def check(checks, built):
         return
     count = int(os.environ.get("RUSTC_JOBS") or 0)
     plain = program()
+    for part in (check_sources, check_packages, check_rewriting):
+        part(checks, stripping())
     check_unit_tests(checks)
     with tempfile.TemporaryDirectory() as room:
         folder = Path(room)
         programs = [as_chanv(it, folder) for it in (built.chanv(), plain)]
         check_inputs(checks, programs, folder, count or FEW)
         check_words(checks, programs)
+        check_streams(checks, programs)
         (folder / "inputs").mkdir()
         check_command_lines(checks, programs, folder / "inputs")
+    check_next_deck(checks, plain)
     check_growths(checks, plain, count)

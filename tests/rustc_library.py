@@ -58,6 +58,17 @@ def check_programs(checks, library, room, is_whole):
             check_lines(checks, room, name)
 
 
+def check_checking(checks, library):
+    """What rustc compiled checks what it should: overflows, what Rust's library asserts, and under
+    sanitizers each access."""
+    listed = run("nm", library.folder / "libchanv.a").output
+    of_walk = re.search(r"(?ms)^chan_walk-\S+:\n(.*?)^$", listed)[1]
+    called = " ".join(re.findall(r"(?m)^ +U (\S+)", of_walk))
+    wanted = ["panic_const_add_overflow", "panic_nounwind", "__asan_report_store"]
+    for name in wanted if library.flags else wanted[:2]:
+        checks.expect_that(f"chan_walk calls {name}", name in called, called)
+
+
 def check_plain(checks, room):
     """What sanitizers would hide: bytes of the stack in an answer, and refused memory."""
     plain = cargo.library()
@@ -101,6 +112,7 @@ def check(checks, built):
         return
     library, is_whole = library_under_test(checks), bool(os.environ.get("RUSTC_JOBS"))
     with tempfile.TemporaryDirectory() as room:
+        check_checking(checks, library)
         check_programs(checks, library, Path(room), is_whole)
         check_plain(checks, Path(room))
     check_tests(checks, library, built.chanv(), is_whole)

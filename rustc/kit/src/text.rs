@@ -44,10 +44,6 @@ impl String {
         self.push_str(letter.encode_utf8(&mut [0; 4]))
     }
 
-    pub fn clear(&mut self) {
-        self.0.clear();
-    }
-
     pub fn as_str(&self) -> &str {
         &self.0
     }
