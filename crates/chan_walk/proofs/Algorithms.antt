@@ -15,3 +15,4 @@ pub mod Opened
 pub mod Moved
 pub mod OneVerdict
 pub mod FaultyStart
+pub mod Counting

@@ -6,7 +6,7 @@ use Rattle.chan_walk.specs.declared.verdict.Verdict.{Verdict}
 use Rattle.chan_walk.specs.declared.verdict.Verdict.TheVariants.{Yes, No}
 use Rattle.chan_walk.specs.Alarm.{IsShownAt}
 use Rattle.chan_walk.specs.Harm.{MayHarm}
-use Rattle.chan_walk.specs.Places.{AreReachable}
+use Rattle.chan_walk.specs.Places.{AreReachable, HasMoreThan}
 use Rattle.chan_walk.specs.Headline.{IsSafe, IsSafeAmong, IsSteady, IsSteadyAmong}
 use Rattle.chan_walk.specs.Verdict.{IsVerdict}
 
@@ -34,6 +34,10 @@ pub record HasAtMost (j : Job) (n : ℕ) : Type 0 where
   pub places : List Place
   pub are : AreReachable j places
   pub few : length places ≤ n
+
+-- that many and no more: there is no answer where too many places are reachable
+abbrev pub FewIsNotMany : Type 0
+FewIsNotMany = (j : Job) (n : ℕ) → HasAtMost j n → HasMoreThan j n → ⊥
 
 -- what an answer promises: it is the verdict; it is yes exactly for a job that is safe in every run
 -- and steady; a yes covers runs among others too; a no has a witness; and no more places are

@@ -6,6 +6,7 @@ ghost use Rattle.chan_walk.specs.Alarm.{HeadlineAloneIsEnough, NoFalseAlarm, Saf
 ghost use Rattle.chan_walk.specs.VerdictBytes.{FaultyStartIsAll, SafeSinceAsked, SameVerdict};
 ghost use Rattle.chan_walk.specs.VerdictBytes.{VerdictByteIsGuarded};
 ghost use Rattle.chan_walk.specs.VerdictBytes.{YesByGuarded, YesStays};
+ghost use Rattle.chan_walk.specs.Answers.{FewIsNotMany};
 ghost use Rattle.chan_walk.specs.Free.{MachineIsFree, SettingCanBe, StoredIsThere};
 ghost use Rattle.chan_walk.specs.Harm.{HarmlessIsSafe, NoIsHarm, ShownBreaks};
 ghost use Rattle.chan_walk.specs.Headline.{GathersArguments, GuardedStays, StaysReachable};
@@ -78,6 +79,11 @@ pub(crate) fn stored_is_there()
 #[tactic(auto, using(crate::proofs::Machine::Free::setting_can_be))]
 pub(crate) fn setting_can_be()
     ensures { SettingCanBe }
+{}
+
+/// There is no answer if too many places are reachable.
+pub(crate) fn few_is_not_many()
+    ensures { FewIsNotMany }
 {}
 
 /// A job has one verdict at most.

@@ -10,3 +10,4 @@ pub mod Idle
 pub mod Noted
 pub mod Hanging
 pub mod Retracing
+pub mod FirstHang

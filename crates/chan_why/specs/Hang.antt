@@ -54,6 +54,12 @@ abbrev pub IsFirstPlace : (Place → Type 0) → Option Place → Type 0
 IsFirstPlace P None = (p : Place) → P p → ⊥
 IsFirstPlace P (Some p) = P p × ((q : Place) → P q → place_number p ≤ place_number q)
 
+-- a program has one first place at which it may hang, or none
+abbrev pub OneFirstHang : Type 0
+OneFirstHang =
+    (j : Job) (one other : Option Place) → IsFirstPlace (MayHang j) one
+    → IsFirstPlace (MayHang j) other → one ≡ other
+
 -- ---- what runs show
 
 -- a step of the program leads from m to a place

@@ -2,7 +2,7 @@
 //! that it is proved.
 
 ghost use Rattle.chan_why.specs.Hang.{EndlessMayHang, HangGoesOn, HangLasts, HangStays, HangsAlike};
-ghost use Rattle.chan_why.specs.Hang.{SomeRunEnds, StepsOnUnlessItEnds};
+ghost use Rattle.chan_why.specs.Hang.{OneFirstHang, SomeRunEnds, StepsOnUnlessItEnds};
 
 /// Where the verdict is yes, a run among others that change no guarded byte never comes from a
 /// place that can't end to one that can.
@@ -44,4 +44,10 @@ fn hang_stays()
 /// A program may hang at the same places under each job with a yes.
 fn hangs_alike()
     ensures { HangsAlike }
+{}
+
+/// A program has one first place at which it may hang, or none.
+#[tactic(auto, using(crate::proofs::FirstHang::one_first_hang))]
+fn one_first_hang()
+    ensures { OneFirstHang }
 {}
