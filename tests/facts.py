@@ -42,6 +42,7 @@ ASKED = [
         "EMBEDDING.md",
         "only after CHANV_YES from chanv_check_write, asked with the program in the table",
     ),
+    ("THEOREM.md", "premises 1 and 2"),
     ("EMBEDDING.md", "any other code except 4 to 7"),
     ("EMBEDDING.md", "Pass room 0 to skip a path"),
 ]
