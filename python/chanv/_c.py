@@ -65,7 +65,12 @@ class Verdict(Structure):
 
 
 class Place(Structure):
-    _fields_ = [("address", c_uint32), ("entered", c_uint8), ("after_transfer", c_uint8)]
+    _fields_ = [
+        ("address", c_uint32),
+        ("entered", c_uint8),
+        ("after_transfer", c_uint8),
+        ("unused", c_uint16),
+    ]
 
 
 class Evidence(Structure):
@@ -86,6 +91,7 @@ class Evidence(Structure):
         ("addresses", c_uint32 * 6),
         ("bytes", c_uint8 * 6),
         ("mask", c_uint8),
+        ("unused", c_uint8),
     ]
 
 
@@ -95,6 +101,7 @@ class Explanation(Structure):
         ("path_count", c_size_t),
         ("second_path_count", c_size_t),
         ("evidence", Evidence),
+        ("unused", c_uint32),
         ("reserved", c_uint64 * 4),
     ]
 

@@ -15,6 +15,13 @@ static const struct gap of_needed[] = {BETWEEN(chanv_needed, hangs_entered, rese
 static const struct gap of_program[] = {BETWEEN(chanv_program, device, reserved),
                                         {PAST(chanv_rows, mask), sizeof(struct chanv_rows)}};
 
+/* from the evidence's last byte to what is reserved */
+static const struct gap of_explanation[] = {
+    {offsetof(struct chanv_explanation, evidence) + PAST(chanv_evidence, mask),
+     offsetof(struct chanv_explanation, reserved)}};
+static const struct gap of_place[] = {
+    {PAST(chanv_place, after_transfer), sizeof(struct chanv_place)}};
+
 static void __attribute__((noinline)) paint_stack(uint8_t byte)
 {
     volatile uint8_t stack[0x4000];
@@ -58,6 +65,31 @@ static void take_in(const char *name, const struct chanv_job *job, size_t room, 
     LOOK(name, &program, of_program);
 }
 
+static void ask_why(const char *name, const struct chanv_job *job, uint8_t byte)
+{
+    struct chanv_explanation told;
+    struct chanv_place path[2];
+    memset(&told, byte, sizeof told), memset(path, byte, sizeof path);
+    paint_stack(byte);
+    enum chanv_answer answer = chanv_why(job, path, 2, NULL, 0, &told);
+    printf("%s: why %u\n", name, answer);
+    LOOK(name, &told, of_explanation);
+    for (size_t i = 0; answer == CHANV_NO && i < told.path_count; i++)
+        LOOK(name, &path[i], of_place);
+}
+
+static void list(const char *name, const struct chanv_job *job, uint8_t byte)
+{
+    struct chanv_place rows[3];
+    size_t count, extent;
+    memset(rows, byte, sizeof rows);
+    paint_stack(byte);
+    enum chanv_answer answer = chanv_list(job, rows, 3, &count, &extent);
+    printf("%s: list %u\n", name, answer);
+    for (size_t i = 0; answer == CHANV_OK && i < count; i++)
+        LOOK(name, &rows[i], of_place);
+}
+
 int main(void)
 {
     static const uint8_t fills[] = {0x77, 0xEE};
@@ -68,6 +100,10 @@ int main(void)
         take_in("with much room", &job, 512, fills[i]);
         take_in("with just enough room", &job, 51, fills[i]);
         take_in("with too little room", &job, 50, fills[i]);
+        ask_why("a yes", &job, fills[i]);
+        list("the search loop", &job, fills[i]);
+        job.store.len = 0;
+        ask_why("nothing lent for storing", &job, fills[i]);
         job.start = 0x804;
         ask_needs("a misaligned start", &job, fills[i]);
         job.device = 3330;

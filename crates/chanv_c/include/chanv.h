@@ -203,6 +203,7 @@ struct chanv_place {
     uint32_t address;       /* the address of the CCW */
     uint8_t entered;        /* how the program enters it, an `enum chanv_entered` */
     uint8_t after_transfer; /* 1 if it counts as reached by a transfer in channel, else 0 */
+    uint16_t unused;        /* 0 */
 };
 
 /* The first part of a seek's argument that the job doesn't allow. */
@@ -250,6 +251,7 @@ struct chanv_evidence {
     uint32_t addresses[6];   /* the addresses of the bytes that are given, in order, then zeros */
     uint8_t bytes[6];        /* the bytes at these addresses, then zeros */
     uint8_t mask;            /* the job's file mask */
+    uint8_t unused;          /* 0 */
 };
 
 /* The answer of `chanv_why`; unused fields are 0. */
@@ -258,6 +260,7 @@ struct chanv_explanation {
     size_t path_count;        /* how many places the path has */
     size_t second_path_count; /* how many places the second path has; often 0 */
     struct chanv_evidence evidence;
+    uint32_t unused;      /* 0 */
     uint64_t reserved[4]; /* 0: room for the values of a later version */
 };
 

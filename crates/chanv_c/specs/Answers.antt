@@ -44,6 +44,7 @@ place_for_c p =
       address = p.address;
       entered = entry_number p.entered;
       after_transfer = transfer_number p.after_transfer;
+      unused = 0;
     }
 
 -- the reachable places, each once, in order; no more than the job's limit

@@ -33,6 +33,7 @@ no_values = record {
   addresses = 0 ∷ 0 ∷ 0 ∷ 0 ∷ 0 ∷ 0 ∷ [];
   bytes = 0 ∷ 0 ∷ 0 ∷ 0 ∷ 0 ∷ 0 ∷ [];
   mask = 0;
+  unused = 0;
 }
 
 -- 0 for a seek, which has an argument, and 1 for a Set File Mask

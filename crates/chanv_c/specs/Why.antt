@@ -35,6 +35,7 @@ explanation_for_c x = record {
   path_count = length x.witness.path.items;
   second_path_count = length x.witness.second_path.items;
   evidence = cause_for_c x.witness.evidence;
+  unused = 0;
   reserved = 0 ∷ 0 ∷ 0 ∷ 0 ∷ [];
 }
 
@@ -45,6 +46,7 @@ no_explanation_for_c extent = record {
   path_count = 0;
   second_path_count = 0;
   evidence = no_values;
+  unused = 0;
   reserved = 0 ∷ 0 ∷ 0 ∷ 0 ∷ [];
 }
 

@@ -43,6 +43,8 @@ pub struct CEvidence {
     pub bytes: [u8; 6],
     /// The job's file mask.
     pub mask: u8,
+    /// 0: C has a byte here that no field takes.
+    pub unused: u8,
 }
 
 /// An area of no bytes.
@@ -66,6 +68,7 @@ pub(crate) const NO_VALUES: CEvidence = CEvidence {
     addresses: [0; 6],
     bytes: [0; 6],
     mask: 0,
+    unused: 0,
 };
 
 /// The bytes of an argument, and their addresses.

@@ -28,6 +28,8 @@ pub struct CExplanation {
     pub path_count: usize,
     pub second_path_count: usize,
     pub evidence: CEvidence,
+    /// 0: C has bytes here that no field takes.
+    pub unused: u32,
     pub reserved: [u64; 4],
 }
 
@@ -122,6 +124,7 @@ fn no_explanation_for_c(extent: usize) -> CExplanation
         path_count: 0,
         second_path_count: 0,
         evidence: NO_VALUES,
+        unused: 0,
         reserved: [0; 4],
     }
 }
@@ -135,6 +138,7 @@ fn explanation_for_c(found: &WitnessedVerdict) -> CExplanation
         path_count: found.witness.path.len(),
         second_path_count: found.witness.second_path.len(),
         evidence: cause_for_c(found.witness.evidence),
+        unused: 0,
         reserved: [0; 4],
     }
 }

@@ -14,6 +14,8 @@ pub struct CPlace {
     pub address: u32,
     pub entered: u8,
     pub after_transfer: u8,
+    /// 0: C has bytes here that no field takes.
+    pub unused: u16,
 }
 
 /// The number in the header of the way in which a CCW is entered.
@@ -36,6 +38,7 @@ fn place_for_c(place: Place) -> CPlace
         address: place.address,
         entered: entry_number(place.entered),
         after_transfer: u8::from(place.after_transfer),
+        unused: 0,
     }
 }
 
