@@ -5,3 +5,4 @@ pub mod OptionLemmas
 pub mod Endings
 mod RoomLemmas
 mod FoundLemmas
+mod OneOutcome

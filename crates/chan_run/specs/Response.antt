@@ -100,6 +100,12 @@ IsJobResponse n a j r =
 abbrev pub IsTextResponse : Naming → Action → List ℕ → Response → Type 0
 IsTextResponse n a t r = IsRefusalResponse n a t r ⊎ HoldsOfDeckJob t (λ j. IsJobResponse n a j r)
 
+-- there is one outcome
+abbrev pub OneOutcome : Type 0
+OneOutcome =
+    (n : Naming) (a : Action) (t : List ℕ) (r q : Response) → IsTextResponse n a t r
+    → IsTextResponse n a t q → r.outcome ≡ q.outcome
+
 -- the answer to what an action asks of a text
 abbrev pub IsResponse : Naming → Action → List ℕ → Response → Type 0
 IsResponse n a t r = IsBareResponse (Failed failures.OutOfMemory) [] r ⊎ IsTextResponse n a t r

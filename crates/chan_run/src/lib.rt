@@ -30,6 +30,7 @@ mod find;
 mod image;
 mod image_options;
 mod input;
+mod laws;
 mod least_job;
 mod meanings;
 mod name;
