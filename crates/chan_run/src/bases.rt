@@ -36,10 +36,7 @@ impl fmt::Display for Grouped {
 fn is_hexadecimal(option: ImageOption) -> bool {
     matches!(
         option,
-        ImageOption::Mask
-            | ImageOption::Start
-            | ImageOption::At
-            | ImageOption::Storage
+        ImageOption::Mask | ImageOption::Start | ImageOption::At | ImageOption::Storage
     )
 }
 

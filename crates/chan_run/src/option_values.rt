@@ -10,8 +10,9 @@ ghost use Rattle.chan_run.specs.Options.{IsSize, address_in, area_in, extent_in,
 ghost use Rattle.chan_run.specs.Options.{size_in};
 
 use crate::image_options::{ImageOptions, OptionError, OptionFault};
-use crate::options::{address_of, area_of, device_of, extent_of, hexadecimal_of, limit_of};
-use crate::options::{mask_of, size_of};
+use crate::options::{
+    address_of, area_of, device_of, extent_of, hexadecimal_of, limit_of, mask_of, size_of,
+};
 use ccw_core::Area;
 use chan_args::{ImageOption, ImageWords};
 use chan_walk::Limit;

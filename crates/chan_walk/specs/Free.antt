@@ -16,8 +16,8 @@ use Rattle.chan_walk.specs.Argument.{Has}
 use Rattle.chan_walk.specs.Fault.{kind_of, is_known, begins_seek, begins_recalibrate}
 use Rattle.chan_walk.specs.Fault.{begins_set_mask}
 use Rattle.chan_walk.specs.Job.{storage_of}
-use Rattle.chan_walk.specs.Machine.{Gathered, Stage, At, Ended, Checked, Event, Fetch, Step, Store}
-use Rattle.chan_walk.specs.Machine.{under_way, with_taken}
+use Rattle.chan_walk.specs.Machine.{Gathered, Stage, At, Ended, Checked, Event, Fetch, MovesData, Step}
+use Rattle.chan_walk.specs.Machine.{Store, under_way, with_taken}
 use Rattle.chan_walk.specs.Place.{ccw_of, is_fresh}
 use Rattle.chan_walk.specs.ProgramCheck.{program_check}
 use Rattle.chan_walk.specs.Setting.{IsSetting}
@@ -111,11 +111,11 @@ MachineIsFree =
     → CanStep s y f p g
     (moved_into (kind_of p.entered (ccw s p.address)) (ccw s p.address) bytes s) z h stage
 
--- what a step stores is there after it
+-- what is stored is there afterwards
 abbrev pub StoredIsThere : Type 0
 StoredIsThere =
-    (s t : List ℕ) (y f z h : ℕ) (p : Place) (g : Gathered) (es : List Event) (stage : Stage)
-    → Step s y f p g es t z h stage → (a : ℕ) (bytes : List ℕ) → Has es (Store a bytes)
+    (c : Fields) (m : ℕ) (s t : List ℕ) (k : Kind) (es : List Event) → MovesData c m s k es t
+    → (a : ℕ) (bytes : List ℕ) → Has es (Store a bytes)
     → (i : ℕ) → i < length bytes → byte t (a + i) ≡ byte bytes i
 
 -- storage s, cylinder y and mask f, after which some step from p has what is set

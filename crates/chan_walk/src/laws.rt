@@ -69,7 +69,7 @@ pub(crate) fn machine_is_free()
     ensures { MachineIsFree }
 {}
 
-/// What a step stores is there after it.
+/// What is stored is in storage afterwards.
 #[tactic(auto, using(crate::proofs::Machine::Free::stored_is_there))]
 pub(crate) fn stored_is_there()
     ensures { StoredIsThere }

@@ -221,49 +221,16 @@ machine_is_free s y f p g is few bytes small may z arm h mask stage on =
 
 -- ---- what is stored
 
-stored_by : (c : Fields) (m : ℕ) (s t : List ℕ) (k : Kind) (es : List Event) → MovesData c m s k es t
-    → (a : ℕ) (bytes : List ℕ) → Has es (Store a bytes) → (i : ℕ) → i < length bytes → byte t (a + i) ≡ byte bytes i
-stored_by c m s t k es (idle e) a bytes has i l = absurd has
-stored_by c m s t k es (skipped e) a bytes has i l = absurd has
-stored_by c m s t k es (stored {bytes = bs} e n small is) a bytes (inr has) i l = absurd has
-stored_by c m s t k es (stored {bytes = bs} e n small is) a bytes (inl same) i l =
+pub stored_is_there : StoredIsThere
+stored_is_there c m s t k es (idle e) a bytes has i l = absurd has
+stored_is_there c m s t k es (skipped e) a bytes has i l = absurd has
+stored_is_there c m s t k es (stored {bytes = bs} e n small is) a bytes (inr has) i l = absurd has
+stored_is_there c m s t k es (stored {bytes = bs} e n small is) a bytes (inl same) i l =
     let at : c.address ≡ a = cc in
     let them : bs ≡ bytes = cc in
     subst (λ n. byte t (n + i) ≡ byte bytes i) at (subst (λ (xs : List ℕ). byte t (c.address + i) ≡ byte xs i) them (is.inside i (rw them l)))
-stored_by c m s t k es written a bytes has i l = absurd (search (rules, has))
-stored_by c m s t k es searched a bytes has i l = absurd (search (rules, has))
-
-module _ (a : ℕ) (bytes : List ℕ) where
-  begins_no_store : (b : Bool) (code : ℕ) → Has (if b then Command code ∷ [] else []) (Store a bytes) → ⊥
-  begins_no_store b code has = search rules
-
-  seeks_no_store : {c : Fields} {m : ℕ} {s : List ℕ} {y z : ℕ} {g h : Gathered} {es : List Event} → Seeks c m s y g es z h → Has es (Store a bytes) → ⊥
-  seeks_no_store sk has = search rules
-
-  homes_no_store : {y z : ℕ} {b : Bool} {es : List Event} → Recalibration y b es z → Has es (Store a bytes) → ⊥
-  homes_no_store hm has = search rules
-
-  masks_no_store : {c : Fields} {m : ℕ} {s : List ℕ} {f h : ℕ} {b : Bool} {es : List Event} → SetsMask c m s f b es h → Has es (Store a bytes) → ⊥
-  masks_no_store fm has = search rules
-
-  goes_no_store : {p : Place} {c : Fields} {k : Kind} {m : ℕ} {g : Gathered} {es : List Event} {st : Stage}
-      → Continues p c k m g es st → Has es (Store a bytes) → ⊥
-  goes_no_store on has = search rules
-
-  only_moved : (begun moved sought homed set went : List Event) → (Has begun (Store a bytes) → ⊥) → (Has sought (Store a bytes) → ⊥)
-      → (Has homed (Store a bytes) → ⊥) → (Has set (Store a bytes) → ⊥) → (Has went (Store a bytes) → ⊥)
-      → Has (begun ++ moved ++ sought ++ homed ++ set ++ went) (Store a bytes) → Has moved (Store a bytes)
-  only_moved begun moved sought homed set went f g h k n has = search (rules, has_cases)
-
-pub stored_is_there : StoredIsThere
-stored_is_there s t y f z h p g es stage (checked e) a bytes has i l = absurd has
-stored_is_there s t y f z h p g es stage (transferred e tr) a bytes has i l = absurd has
-stored_is_there s t y f z h p g es stage (unknown e tr fr un) a bytes has i l = absurd (search (rules, has))
-stored_is_there s t y f z h p g es stage
-    (carried {moved = moved} {sought = sought} {homed = homed} {set = set} {went = went} {m = m} e tr known le mv sk hm fm gs) a bytes has i l =
-    stored_by (ccw s p.address) m s t (kind_of p.entered (ccw s p.address)) moved mv a bytes
-    (only_moved a bytes (command_event p (ccw s p.address)) moved sought homed set went (begins_no_store a bytes (is_fresh p.entered) (ccw s p.address).command)
-    (seeks_no_store a bytes sk) (homes_no_store a bytes hm) (masks_no_store a bytes fm) (goes_no_store a bytes gs) has) i l
+stored_is_there c m s t k es written a bytes has i l = absurd (search (rules, has))
+stored_is_there c m s t k es searched a bytes has i l = absurd (search (rules, has))
 
 -- ---- what is set
 
