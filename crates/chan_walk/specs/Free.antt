@@ -16,8 +16,8 @@ use Rattle.chan_walk.specs.Argument.{Has}
 use Rattle.chan_walk.specs.Fault.{kind_of, is_known, begins_seek, begins_recalibrate}
 use Rattle.chan_walk.specs.Fault.{begins_set_mask}
 use Rattle.chan_walk.specs.Job.{storage_of}
-use Rattle.chan_walk.specs.Machine.{Gathered, Stage, At, Ended, Checked, Event, Fetch, MovesData, Step}
-use Rattle.chan_walk.specs.Machine.{Store, under_way, with_taken}
+use Rattle.chan_walk.specs.Machine.{Gathered, Stage, At, Ended, Checked, Event, Fetch, MovesData}
+use Rattle.chan_walk.specs.Machine.{Step, Store, under_way, with_taken}
 use Rattle.chan_walk.specs.Place.{ccw_of, is_fresh}
 use Rattle.chan_walk.specs.ProgramCheck.{program_check}
 use Rattle.chan_walk.specs.Setting.{IsSetting}
