@@ -180,6 +180,11 @@ merged_is_unique (x ∷ xs) (y ∷ ys) m n s =
     (λ b. one_truth (lies_in xs b) (lies_in ys b) (λ k. rest_within x y xs ys b e m s k) (λ k. rest_within y x ys xs b (sym e) n back k)) in
     ap (λ z. z ∷ xs) e ∙ ap (λ z. y ∷ z) rests
 
+-- so the areas of a set of bytes are one list
+pub exactly_one : (P : ℕ → Type 0) (xs ys : List Area) → AreExactly P xs → AreExactly P ys → xs ≡ ys
+exactly_one P xs ys x y = merged_is_unique xs ys x.merged y.merged
+    (λ b. one_truth (lies_in xs b) (lies_in ys b) (λ h. (y.bytes b).1 ((x.bytes b).0 h)) (λ h. (x.bytes b).1 ((y.bytes b).0 h)))
+
 -- ---- where areas end
 
 -- a byte lies before the end of its area

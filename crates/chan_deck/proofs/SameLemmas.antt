@@ -1,5 +1,5 @@
 -- Decks that compare as equal are one.
-use Rattle.chan_deck.proofs.Names.{and_parts, ap, Area, arith, bytes_eq-Decides, D2311, D2314, Decides, Device, eqb-true, Image, One, refl, sym, true, Two, Version, ℕ, ◌&&◌, ◌∙◌, ◌≡◌}
+use Rattle.chan_deck.proofs.Names.{and_parts, ap, Area, arith, bytes_eq-Decides, D2311, D2314, Decides, Device, eqb-true, Image, List, One, refl, sym, true, Two, Version, ℕ, ◌&&◌, ◌∙◌, ◌≡◌}
 use Rattle.std.specs.Prelude.{nat_eq}
 use Rattle.std.proofs.lemmas.Bool.{eq-eqb, and_from}
 use Rattle.std.proofs.lemmas.Slice.Eq.{slice_eq-Decides}
@@ -21,6 +21,9 @@ area_decides a b = (
       ap (λ (p : ℕ × ℕ). record { start = p.0; len = p.1 }) (pair_is a.start a.len b.start b.len (eqb-true _ _ t.0) (eqb-true _ _ t.1)),
   λ e. and_from (nat_eq a.start b.start) (nat_eq a.len b.len) (eq-eqb _ _ (ap (λ (p : Area). p.start) e)) (eq-eqb _ _ (ap (λ (p : Area). p.len) e)),
 )
+
+pub same_areas_is : (xs ys : List Area) → same_areas xs ys ≡ true → xs ≡ ys
+same_areas_is xs ys h = (slice_eq-Decides area_decides xs ys (same_areas xs ys) refl).0 h
 
 one_model : (a b : Device) → model_of a ≡ model_of b → a ≡ b
 one_model D2311 D2311 e = refl
@@ -49,8 +52,8 @@ same_is d e h =
     let mask : d.mask ≡ e.mask = eqb-true _ _ b.0 in
     let start : d.start ≡ e.start = eqb-true _ _ c.0 in
     let extents : d.extents ≡ e.extents = (same_extents-decides d.extents e.extents).0 x.0 in
-    let fetch : d.fetch ≡ e.fetch = (slice_eq-Decides area_decides d.fetch e.fetch (same_areas d.fetch e.fetch) refl).0 f.0 in
-    let store : d.store ≡ e.store = (slice_eq-Decides area_decides d.store e.store (same_areas d.store e.store) refl).0 s.0 in
+    let fetch : d.fetch ≡ e.fetch = same_areas_is d.fetch e.fetch f.0 in
+    let store : d.store ≡ e.store = same_areas_is d.store e.store s.0 in
     let storage : d.storage ≡ e.storage = (bytes_eq-Decides d.storage e.storage).0 s.1 in
     ap (λ v. record d { version = v }) version ∙ ap (λ v. record d { version = e.version; device = v }) device
     ∙ ap (λ v. record d { version = e.version; device = e.device; mask = v }) mask

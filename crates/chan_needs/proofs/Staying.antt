@@ -24,7 +24,7 @@ module _ (j k : Job) (keeps : KeepsProgram j k) (v : IsVerdict (open_job j) Yes)
   both f g = ((λ a. g.0 (f.0 a)), λ c. f.1 (g.1 c))
 
   -- the same places are reachable
-  reached_same : (p : Place) → IsReachable (open_job j) p ↔ IsReachable (open_job k) p
+  pub reached_same : (p : Place) → IsReachable (open_job j) p ↔ IsReachable (open_job k) p
   reached_same p =
       both (same_reached (open_job j) mid refl (carry j k keeps v) p)
       ((same_under_yes mid (open_job k) (open_there j k keeps v) (yes_there j k keeps v) (yes_open j k keeps v)).0 p)
@@ -141,7 +141,7 @@ module _ (s u : List ℕ) (len : length u ≡ length s) where
     changed = λ h. c.changed ((same_holds a kept c.number (same c.number c.within)).1 h);
   }
 
-  holds_over : (areas : List Area) (kept : List ℕ) → ((b : ℕ) → lies_in areas b ≡ true → byte u b ≡ byte s b)
+  pub holds_over : (areas : List Area) (kept : List ℕ) → ((b : ℕ) → lies_in areas b ≡ true → byte u b ≡ byte s b)
       → HoldsAreas s areas kept → HoldsAreas u areas kept
   holds_over [] kept same h = tt
   holds_over (a ∷ areas) kept same h = (

@@ -1,5 +1,5 @@
 -- An action on a text has one outcome, where memory lasts.
-use Rattle.std.proofs.Common.{◌≡◌, ◌≤◌, ◌↔◌, ◌∙◌, ◌∷◌, ◌⊎◌, [], ℕ, List, ap, inl, inr, length, refl, subst, sym, true}
+use Rattle.std.proofs.Common.{◌≡◌, ◌↔◌, ◌∙◌, ◌∷◌, ◌⊎◌, [], ℕ, List, ap, inl, inr, length, refl, subst, sym, true}
 use Rattle.ccw_core.specs.Areas.{lies_in}
 use Rattle.ccw_core.specs.declared.areas.Area.{Area}
 use Rattle.ckd_core.specs.Extents.{has_cylinder}
@@ -10,9 +10,9 @@ use Rattle.chan_walk.specs.declared.place.Place.{Place}
 use Rattle.chan_walk.specs.declared.verdict.Verdict.{Verdict}
 use Rattle.chan_walk.specs.Reachable.{IsReachable}
 use Rattle.chan_walk.specs.Verdict.{IsVerdict}
-use Rattle.chan_walk.specs.Job.{extents_of, fetch_of, storage_of, store_of}
+use Rattle.chan_walk.specs.Job.{extents_of, fetch_of, store_of}
 use Rattle.chan_walk.specs.OpenJob.{all_storage, AreOfOneProgram, GrantsMore, IsOpenJob}
-use Rattle.chan_walk.proofs.Algorithms.Counting.{few_is_not_many}
+use Rattle.chan_walk.proofs.Algorithms.Counting.{few_among}
 use Rattle.chan_walk.proofs.Algorithms.Granted.{same_by_grants}
 use Rattle.chan_walk.proofs.Algorithms.OneVerdict.{one_verdict}
 use Rattle.chan_walk.proofs.Theory.Masks.{strict_as_itself}
@@ -94,26 +94,12 @@ module _ (n : Naming) (a : Action) (k l : Job) (alike : AreAlike k l) where
   same : ((p : Place) → IsReachable k p ↔ IsReachable l p) × ((v : Verdict) → IsVerdict k v ↔ IsVerdict l v)
   same = same_by_grants k l alike.program alike.more alike.less
 
-  few_over : HasAtMost k k.limit → HasAtMost l l.limit
-  few_over h = record {
-    places = h.places;
-    are = record { ordered = h.are.ordered; each = λ p r. h.are.each p ((same.0 p).1 r); only = λ p m. (same.0 p).0 (h.are.only p m) };
-    few = subst (λ c. length h.places ≤ c) alike.limit h.few;
-  }
-
-  few_back : HasAtMost l l.limit → HasAtMost k k.limit
-  few_back h = record {
-    places = h.places;
-    are = record { ordered = h.are.ordered; each = λ p r. h.are.each p ((same.0 p).0 r); only = λ p m. (same.0 p).1 (h.are.only p m) };
-    few = subst (λ c. length h.places ≤ c) (sym alike.limit) h.few;
-  }
-
   outcomes : (r q : Response) → IsVerdictResponse n a k r ⊎ IsLimitResponse n a k r → IsVerdictResponse n a l q ⊎ IsLimitResponse n a l q
       → r.outcome ≡ q.outcome
   outcomes r q (inl v) (inl w) =
       v.outcome ∙ ap outcome_of (one_verdict l v.verdict w.verdict ((same.1 v.verdict).0 v.is.verdict) w.is.verdict) ∙ sym w.outcome
-  outcomes r q (inl v) (inr m) = absurd (few_is_not_many l l.limit (few_over v.is.few) m.many)
-  outcomes r q (inr m) (inl w) = absurd (few_is_not_many k k.limit (few_back w.is.few) m.many)
+  outcomes r q (inl v) (inr m) = absurd (few_among k l l.limit (λ p. (same.0 p).1) (subst (HasAtMost k) alike.limit v.is.few) m.many)
+  outcomes r q (inr m) (inl w) = absurd (few_among l k k.limit (λ p. (same.0 p).0) (subst (HasAtMost l) (sym alike.limit) w.is.few) m.many)
   outcomes r q (inr m) (inr w) = m.outcome ∙ sym w.outcome
 
 refusals : (n : Naming) (a : Action) (t : List ℕ) (r q : Response) → IsRefusalResponse n a t r → IsRefusalResponse n a t q → r.outcome ≡ q.outcome

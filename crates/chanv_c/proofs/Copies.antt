@@ -10,7 +10,7 @@ use Rattle.chan_needs.specs.Listed.{Listed}
 use Rattle.chan_needs.proofs.Remembering.{same_device, same_held}
 use Rattle.chan_needs.proofs.Staying.{needs_stay}
 use Rattle.chanv_c.specs.declared.job.CJob.{CJob}
-use Rattle.chanv_c.specs.Needs.{AreNeedsOf, AreNeedsWhereHeld, AsksOverCopy, HasChangedMeanwhile, KeepsOtherAreas, with_area, with_areas}
+use Rattle.chanv_c.specs.Needs.{AreNeedsOf, AreNeedsWhereHeld, with_area, with_areas}
 
 -- the needs over one storage are those over each that is as long and holds the kept bytes
 pub where_held : (c : CJob) (n : Listed) (hang : Option Place) (kept : List ℕ)
@@ -47,16 +47,4 @@ one_more_copied s areas i old now new within h len is = record {
       ap (λ z. with_areas s (drop (i + 1) areas) z) is
       ∙ ap (λ (z : List Area). with_areas s z now) (sym (rest_of areas i within))
       ∙ h.rest;
-}
-
-pub changed_meanwhile : (c : CJob) (old new : List ℕ) (n : Listed) (hang : Option Place) (keep : List Area) {d : CJob} → AreNeedsOf c n hang
-    → keep ≡ n.keep → new ≡ with_areas c.storage.now keep old → KeepsOtherAreas d keep → AsksOverCopy c new d → HasChangedMeanwhile c old new
-changed_meanwhile c old new n hang keep {d = d} found same copied others over = record {
-  needs = n;
-  hang = hang;
-  found = found;
-  copied = subst (λ (l : List Area). new ≡ with_areas c.storage.now l old) same copied;
-  judged = d;
-  over = over;
-  others = subst (KeepsOtherAreas d) same others;
 }

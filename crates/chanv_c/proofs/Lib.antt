@@ -3,3 +3,4 @@ pub mod Written
 pub mod Beginnings
 pub mod Jobs
 pub mod Copies
+pub mod Quiet

@@ -1,5 +1,6 @@
 -- What the number of an answer says of the job.
-use Rattle.std.proofs.Common.{◌≡◌, ◌≢◌, ◌<◌, ◌≤◌, ◌⊎◌, ◌∷◌, [], ℕ, zero, suc, List, Some, true, ap, length, refl, arith, inl, inr, subst}
+use Rattle.std.proofs.Common.{◌≡◌, ◌≢◌, ◌<◌, ◌≤◌, ◌⊎◌, ◌∷◌, [], ℕ, zero, suc, List, Some, true, ap, length, refl, arith, inl, inr, rules, subst}
+use Rattle.chanv_c.specs.declared.codes.TheConstants as codes
 use Rattle.chanv_c.specs.declared.job.CJob.{CJob}
 use Rattle.chanv_c.specs.declared.refusal.JobFault.{JobFault}
 use Rattle.chanv_c.specs.declared.refusal.JobFault.TheVariants.{StorageTooLarge, NotADevice, NotAMask, NoExtent, ExtentBackwards, ExtentPastDevice, NotALimit, ReservedNotZero}
@@ -74,6 +75,11 @@ refusal_number crowded c (Wrong f) is =
       accepted = fault_accepts_none (fault_code f) four room;
       last = last;
     }
+
+-- what was found of a job without a fault is told, unless memory is refused
+pub needs_number : (crowded : Type 0) (c : CJob) (n extent : ℕ) → HasNoFault c → n ≢ codes.CHANGED_MEANWHILE
+    → (n ≡ codes.YES) ⊎ (n ≡ codes.MEMORY) ⊎ (n ≡ codes.NO_ROOM) ⊎ (n ≡ codes.CHANGED_MEANWHILE) → IsAnswerCode crowded c n extent
+needs_number crowded c n extent right quiet code = search (rules, right, quiet, code)
 
 -- ---- a job within all bounds
 

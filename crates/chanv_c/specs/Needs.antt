@@ -171,17 +171,6 @@ KeepsOtherAreas c areas =
     ⊎ ((a : ℕ) × (r : Reason) × IsJudgedOpenly c (No a r))
     ⊎ ((n : Listed) × (hang : Option Place) × AreNeedsOf c n hang × (n.keep ≢ areas))
 
--- storage changed during the call: over a copy of what the program of c was found to keep, it keeps
--- something else
-pub record HasChangedMeanwhile (c : CJob) (old new : List ℕ) : Type 0 where
-  pub needs : Listed
-  pub hang : Option Place
-  pub found : AreNeedsOf c needs hang
-  pub copied : new ≡ with_areas c.storage.now needs.keep old
-  pub judged : CJob
-  pub over : AsksOverCopy c new judged
-  pub others : KeepsOtherAreas judged needs.keep
-
 -- these are the needs over each storage that is as long and holds the bytes that were kept
 abbrev pub AreNeedsWhereHeld : CJob → Listed → List ℕ → Type 0
 AreNeedsWhereHeld c n kept =

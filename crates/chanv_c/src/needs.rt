@@ -1,7 +1,7 @@
 //! What a channel program needs of each job that it runs under, and what it keeps.
 
-ghost use Rattle.std.specs.Prelude.{◌≡◌, ◌≢◌, ◌<◌, ◌≤◌, ◌↔◌, ◌⊎◌, length, IfOk, IfErr, IsTrue};
-ghost use Rattle.std.specs.Prelude.{OnOk};
+ghost use Rattle.std.specs.Prelude.{◌≡◌, ◌≢◌, ◌<◌, ◌≤◌, ◌↔◌, ◌⊎◌, length, take};
+ghost use Rattle.std.specs.Prelude.{IfOk, IfErr, IsTrue, OnOk};
 ghost use Rattle.std.specs.List.{All};
 ghost use Rattle.chan_areas.specs.Merged.{IsMerged};
 ghost use Rattle.chan_needs.specs.Remembered.{HoldsAreas, IsInside, bytes_in, total_len};
@@ -14,7 +14,7 @@ ghost use Rattle.chanv_c.specs.Job.{IsAskedJob};
 ghost use Rattle.chanv_c.specs.Faults.{HasNoFault};
 ghost use Rattle.chanv_c.specs.Needs.{AreWrittenNeeds, HasTooManyOpenly, HaveRoomForNeeds};
 ghost use Rattle.chanv_c.specs.Needs.{HaveTooLittleRoom, IsFoundNeeds, AsksOverCopy, IsWrittenNo};
-ghost use Rattle.chanv_c.specs.Needs.{HasChangedMeanwhile, KeepsOtherAreas, with_area, with_areas};
+ghost use Rattle.chanv_c.specs.Needs.{KeepsOtherAreas, with_area, with_areas};
 ghost use Rattle.chanv_c.specs.Needs.{StandFirst, without_needs, needs_for_c};
 ghost use Rattle.chanv_c.specs.declared.job.CJob as asked;
 ghost use Rattle.chanv_c.specs.declared.refusal.Refusal.TheVariants.{Memory};
@@ -94,14 +94,14 @@ pub extern "C" fn needs_by_copy(
         × HaveTooLittleRoom c out.new extents.old fetch.old store.old keep.old kept.old }
     ensures left { result ≢ YES → (extents.new ≡ extents.old) × (fetch.new ≡ fetch.old)
         × (store.new ≡ store.old) × (keep.new ≡ keep.old) × (kept.new ≡ kept.old) }
-    ensures changed { result ≡ CHANGED_MEANWHILE
-        → HasChangedMeanwhile job.now copy.old copy.new }
-    ensures number { result ≢ CHANGED_MEANWHILE
-        → IsAnswerCode (HasTooManyOpenly job.now) job.now result out.new.verdict.extent }
+    ensures quiet { result ≢ CHANGED_MEANWHILE }
+    ensures agrees { result ≡ YES → HoldsAreas job.now.storage.now
+        (take out.new.keep_count keep.new) kept.new }
+    ensures number { IsAnswerCode (HasTooManyOpenly job.now) job.now result
+        out.new.verdict.extent }
     ensures nothing { TOO_MANY_PLACES ≤ result → result ≢ NO_ROOM → out.new
         ≡ without_needs (record { extent = out.new.verdict.extent; address = 0; reason = 0 }) }
-    ensures no_extent { (result < STORAGE_TOO_LARGE) ⊎ (result ≡ CHANGED_MEANWHILE)
-        → out.new.verdict.extent ≡ 0 }
+    ensures no_extent { result < STORAGE_TOO_LARGE → out.new.verdict.extent ≡ 0 }
 {
     let first = match needs_of(alloc, job) {
         Ok(FoundNeeds::Needed(needs, _)) => needs,
@@ -114,7 +114,8 @@ pub extern "C" fn needs_by_copy(
             return refusal.code();
         }
     };
-    if !copy_areas(job, first.keep.as_slice(), copy) {
+    let copied = first.keep.as_slice();
+    if !copy_areas(job, copied, copy) {
         *out = without_needs(0, 0, 0);
         return MEMORY;
     }
@@ -122,7 +123,6 @@ pub extern "C" fn needs_by_copy(
         storage: copy,
         ..*job
     };
-    let copied = first.keep.as_slice();
     needs_over(
         alloc, &still, copied, out, extents, fetch, store, keep, kept,
     )
@@ -132,7 +132,8 @@ pub extern "C" fn needs_by_copy(
 /// the copy isn't as long as storage. In the proofs storage stays as it is; if it is written
 /// meanwhile, the copy may hold anything there.
 fn copy_areas(job: &CJob<'_>, areas: &[Area], copy: &mut [u8]) -> bool
-    ensures length { IsTrue result → length copy.new ≡ length job.now.storage.now }
+    ensures length { IsTrue result → (length copy.old ≡ length job.now.storage.now)
+        × (length copy.new ≡ length copy.old) }
     ensures copied { IsTrue result
         → copy.new ≡ with_areas job.now.storage.now areas.now copy.old }
 {
@@ -171,8 +172,9 @@ fn needs_over(
     keep: &mut [Area],
     kept: &mut [u8],
 ) -> u32
-    ensures yes { result ≡ YES → AreWrittenNeeds still.now out.new extents.old extents.new
-        fetch.old fetch.new store.old store.new keep.old keep.new kept.old kept.new }
+    ensures yes { result ≡ YES → (written : AreWrittenNeeds still.now out.new extents.old
+        extents.new fetch.old fetch.new store.old store.new keep.old keep.new kept.old kept.new)
+        × (written.needs.keep ≡ copied.now) }
     ensures room { result ≡ NO_ROOM → HaveTooLittleRoom still.now out.new extents.old fetch.old
         store.old keep.old kept.old }
     ensures left { result ≢ YES → (extents.new ≡ extents.old) × (fetch.new ≡ fetch.old)

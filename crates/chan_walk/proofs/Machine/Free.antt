@@ -1,5 +1,5 @@
 -- Each thing that the machine leaves free is done by some step.
-use Rattle.chan_walk.proofs.Names.{[], AllByRecursion, ap, argument, arith, At, begins_recalibrate, begins_seek, begins_set_mask, BeginsAt, Bool, byte, carried, cases_Bool, cases_lt, ccw, ccw_of, chains_data, checked, Checked, Command, command_event, Continues, cylinder_of, Ended, ends, Event, false, Fetch, Fields, Gather, Gathered, Has, has_count, home, home_stays, Idle, idle, if◌then◌else◌, inl, inr, Inward, is_fresh, is_mask, is_transfer, Job, joined, Kind, kind_of, length, List, map, mask_stays, MovesData, no_byte, no_home, no_mask, None, none, Operand, IsOperand, length-map-range_with_len, next_of, skip_of, Option, Outward, part, Place, range_with_len, refl, rules, Search, searched, Seek, SetMask, skipped, skips, Some, Stage, stays, storage_of, Store, stored, subst, suc, sym, taken, Track, track_of, transferred, true, under_way, unknown, with_taken, written, zero, ℕ, ◌++◌, ◌+◌, ◌<◌, ◌==◌, ◌∙◌, ◌∷◌, ◌≡◌, ◌≤◌, ◌⊎◌}
+use Rattle.chan_walk.proofs.Names.{[], AllByRecursion, ap, argument, arith, At, begins_recalibrate, begins_seek, begins_set_mask, BeginsAt, Bool, byte, carried, cases_Bool, cases_lt, ccw, ccw_of, chains_data, Checked, command_event, common_steps, Continues, cylinder_of, Ended, ends, Event, false, Fetch, Fields, Gather, Gathered, has_count, home, home_stays, Idle, idle, if◌then◌else◌, inl, inr, Inward, is_mask, is_transfer, Job, joined, Kind, kind_of, length, List, map, mask_stays, MovesData, no_byte, no_home, no_mask, None, none, Operand, IsOperand, length-map-range_with_len, next_of, skip_of, Option, Outward, part, Place, range_with_len, refl, rules, Search, searched, Seek, SetMask, skipped, skips, Some, Stage, stays, storage_of, Store, stored, subst, suc, sym, taken, Track, track_of, true, under_way, with_taken, written, zero, ℕ, ◌++◌, ◌+◌, ◌<◌, ◌==◌, ◌∙◌, ◌∷◌, ◌≡◌, ◌≤◌, ◌⊎◌}
 use Rattle.std.specs.Option.{option_map}
 use Rattle.std.specs.Prelude.{drop, take}
 use Rattle.chan_walk.proofs.Machine.Yes.{fresh_out}
@@ -11,54 +11,23 @@ use Rattle.chan_walk.proofs.Machine.Events.{in_six}
 use Rattle.chan_walk.proofs.Machine.Quiet.{length-with_taken}
 use Rattle.chan_walk.proofs.Theory.Checks.{data_fits, passed}
 use Rattle.chan_walk.proofs.Theory.Follows.{by_command, by_data, by_skip, by_transfer, follows, FollowsBy}
-use Rattle.chan_walk.proofs.Theory.Lists.{has_cases}
 use Rattle.chan_walk.specs.Free.{CanSet, FetchesAhead, CarriesOutCcw, IsUnfinished, left_of, MachineIsFree, MayComeTo, MayMove, moved_into, SettingCanBe, StoredIsThere}
 use Rattle.chan_walk.specs.Machine.{goes, home_goes, IsStored, mask_set, on_command, on_data, on_skip, Recalibration, Seeks, SetsMask}
 
 -- ---- the bytes
 
-plus : (n : ℕ) → 0 + n ≡ n
-plus n = omega arith
-
-next_plus : (a n : ℕ) → suc a + n ≡ suc (a + n)
-next_plus a n = omega arith
-
-front : (xs ys : List ℕ) (i : ℕ) → i < length xs → byte (xs ++ ys) i ≡ byte xs i
-front [] ys i l = absurd (omega arith)
-front (x ∷ xs) ys zero l = refl
-front (x ∷ xs) ys (suc i) l = front xs ys i (omega arith)
-
-in_place : (s bytes : List ℕ) (a i : ℕ) → i < length bytes → a ≤ length s
-    → byte (take a s ++ (bytes ++ drop (a + length bytes) s)) (a + i) ≡ byte bytes i
-in_place s bytes zero i l h = rw (plus i, plus (length bytes)) (front bytes (drop (length bytes) s) i l)
-in_place [] bytes (suc a) i l h = absurd (omega arith)
-in_place (x ∷ xs) bytes (suc a) i l h = rw (next_plus a i, next_plus a (length bytes)) (in_place xs bytes a i l (omega arith))
-
-after : (s bytes : List ℕ) (b : ℕ) → length bytes ≤ b → length bytes ≤ length s → byte (bytes ++ drop (length bytes) s) b ≡ byte s b
-after s [] b h l = refl
-after [] (y ∷ ys) b h l = absurd (omega arith)
-after (x ∷ xs) (y ∷ ys) zero h l = absurd (omega arith)
-after (x ∷ xs) (y ∷ ys) (suc b) h l = after xs ys b (omega arith) (omega arith)
-
-beside : (s bytes : List ℕ) (a b : ℕ) → (b < a) ⊎ (a + length bytes ≤ b) → a + length bytes ≤ length s
-    → byte (take a s ++ (bytes ++ drop (a + length bytes) s)) b ≡ byte s b
-beside s bytes zero b (inl h) l = absurd (omega arith)
-beside s bytes zero b (inr h) l = rw (plus (length bytes)) (after s bytes b (omega arith) (omega arith))
-beside [] bytes (suc a) b h l = absurd (omega arith)
-beside (x ∷ xs) bytes (suc a) zero h l = refl
-beside (x ∷ xs) bytes (suc a) (suc b) (inl h) l = rw (next_plus a (length bytes)) (beside xs bytes a b (inl (omega arith)) (omega arith))
-beside (x ∷ xs) bytes (suc a) (suc b) (inr h) l = rw (next_plus a (length bytes)) (beside xs bytes a b (inr (omega arith)) (omega arith))
-
-all_long : (s bytes : List ℕ) → length bytes ≤ length s → length (bytes ++ drop (length bytes) s) ≡ length s
-all_long s [] l = refl
-all_long [] (y ∷ ys) l = absurd (omega arith)
-all_long (x ∷ xs) (y ∷ ys) l = ap suc (all_long xs ys (omega arith))
-
-as_long : (s bytes : List ℕ) (a : ℕ) → a + length bytes ≤ length s
-    → length (take a s ++ (bytes ++ drop (a + length bytes) s)) ≡ length s
-as_long s bytes zero l = rw (plus (length bytes)) (all_long s bytes (omega arith))
-as_long [] bytes (suc a) l = absurd (omega arith)
-as_long (x ∷ xs) bytes (suc a) l = rw (next_plus a (length bytes)) (ap suc (as_long xs bytes a (omega arith)))
+-- bytes that are put into storage are stored there
+pub stored_over : (s bytes : List ℕ) (a : ℕ) → a + length bytes ≤ length s
+    → IsStored s a bytes (take a s ++ (bytes ++ drop (a + length bytes) s))
+stored_over s bytes a fits = record {
+  same_length = grind (arith, common_steps);
+  inside = λ i l. grind (arith, common_steps);
+  others = λ b o. outside b o;
+}
+  where
+    outside : (b : ℕ) → (b < a) ⊎ (a + length bytes ≤ b) → byte (take a s ++ (bytes ++ drop (a + length bytes) s)) b ≡ byte s b
+    outside b (inl below) = grind (arith, common_steps)
+    outside b (inr above) = grind (arith, common_steps)
 
 record CanMove (s : List ℕ) (c : Fields) (k : Kind) (bytes : List ℕ) : Type 0 where
   es : List Event
@@ -73,11 +42,7 @@ can_move s c Search bytes small may fits = record { es = _; moves = searched; ah
 can_move s c Inward bytes small may fits = go (cases_Bool (skips c))
   where
     is : IsStored s c.address bytes (take c.address s ++ (bytes ++ drop (c.address + length bytes) s))
-    is = record {
-      same_length = as_long s bytes c.address (omega (arith, may.0));
-      inside = λ i l. in_place s bytes c.address i l (omega (arith, may.0));
-      others = λ b o. beside s bytes c.address b o (omega (arith, may.0));
-    }
+    is = stored_over s bytes c.address (omega (arith, may.0))
 
     go : (skips c ≡ true) ⊎ (skips c ≡ false) → CanMove s c Inward bytes
     go (inl h) = record { es = []; moves = rw h (skipped h); ahead = tt }

@@ -1,4 +1,4 @@
-use Rattle.std.proofs.Common.{◌≡◌, arith, refl, string_bytes, sym}
+use Rattle.std.proofs.Common.{arith, refl, string_bytes, sym}
 use Rattle.std.proofs.lemmas.List.{append-nil}
 use Rattle.chan_deck.proofs.explanation.explanation_text.Goals as goal
 

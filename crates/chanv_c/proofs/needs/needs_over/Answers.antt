@@ -1,7 +1,8 @@
 -- What is told of needs, and that they are the needs wherever the kept bytes are held.
 use Rattle.std.proofs.Common.{◌≤◌, ◌≡◌, ◌∙◌, ℕ, List, [], ◌∷◌, ap, inr, length, map, refl, subst, sym, true}
 use Rattle.std.specs.List.{All}
-use Rattle.std.proofs.lemmas.Bool.{both_ways}
+use Rattle.std.proofs.lemmas.Bool.{both_ways, not-false}
+use Rattle.chan_deck.proofs.SameLemmas.{same_areas_is}
 use Rattle.chan_deck.specs.SameDecks.{same_areas, same_areas-IsEquivalence}
 use Rattle.ccw_core.specs.declared.areas.Area.{Area}
 use Rattle.chan_needs.specs.Remembered.{HoldsAreas, IsInside, bytes_in, total_len}
@@ -32,21 +33,23 @@ pub returns-clause-yes : goal.returns-clause-yes
 returns-clause-yes c = λ _.
     let needs = subst (IsFoundNeeds c.args.still.now) c.in-Ok-Needed.field-0-is c.in-Ok-Needed.ensures.answer in
     let held = subst (λ (l : List Area). HoldsAreas c.args.still.now.storage.now l c.copy_kept_bytes.new.kept)
-    c.as_slice-6.ensures.value c.copy_kept_bytes.ensures.held in
-    record {
-      needs = listed c.in-Ok-Needed.needs;
-      hang = c.in-Ok-Needed.hang;
-      found = record { needs = needs; out_is = c.needs_for_c-found.ensures };
-      extents = subst (λ (l : List Extent). StandFirst l c.args.extents.now c.write_list.new.room)
-          (c.as_slice-2.ensures.value ∙ sym (extents_of_pairs c.in-Ok-Needed.needs.extents.items)) c.write_list.ensures;
-      fetch = subst (λ (l : List Area). StandFirst l c.args.fetch.now c.write_list-2.new.room) c.as_slice-3.ensures.value c.write_list-2.ensures;
-      store = subst (λ (l : List Area). StandFirst l c.args.store.now c.write_list-3.new.room) c.as_slice-4.ensures.value c.write_list-3.ensures;
-      keep = subst (λ (l : List Area). StandFirst l c.args.keep.now c.write_list-4.new.room) c.as_slice-5.ensures.value c.write_list-4.ensures;
-      kept = subst (λ (l : List Area). StandFirst (bytes_in c.args.still.now.storage.now l) c.args.kept.now c.copy_kept_bytes.new.kept)
-          c.as_slice-6.ensures.value c.copy_kept_bytes.ensures.copied;
-      held = held;
-      stays = where_held c.args.still.now (listed c.in-Ok-Needed.needs) c.in-Ok-Needed.hang c.copy_kept_bytes.new.kept needs held;
-    }
+    c.as_slice-6.ensures.value c.copy_kept_bytes.ensures.held in (
+      record {
+        needs = listed c.in-Ok-Needed.needs;
+        hang = c.in-Ok-Needed.hang;
+        found = record { needs = needs; out_is = c.needs_for_c-found.ensures };
+        extents = subst (λ (l : List Extent). StandFirst l c.args.extents.now c.write_list.new.room)
+            (c.as_slice-2.ensures.value ∙ sym (extents_of_pairs c.in-Ok-Needed.needs.extents.items)) c.write_list.ensures;
+        fetch = subst (λ (l : List Area). StandFirst l c.args.fetch.now c.write_list-2.new.room) c.as_slice-3.ensures.value c.write_list-2.ensures;
+        store = subst (λ (l : List Area). StandFirst l c.args.store.now c.write_list-3.new.room) c.as_slice-4.ensures.value c.write_list-3.ensures;
+        keep = subst (λ (l : List Area). StandFirst l c.args.keep.now c.write_list-4.new.room) c.as_slice-5.ensures.value c.write_list-4.ensures;
+        kept = subst (λ (l : List Area). StandFirst (bytes_in c.args.still.now.storage.now l) c.args.kept.now c.copy_kept_bytes.new.kept)
+            c.as_slice-6.ensures.value c.copy_kept_bytes.ensures.copied;
+        held = held;
+        stays = where_held c.args.still.now (listed c.in-Ok-Needed.needs) c.in-Ok-Needed.hang c.copy_kept_bytes.new.kept needs held;
+      },
+      sym c.as_slice.ensures.value ∙ same_areas_is c.as_slice.result.now c.args.copied.now (not-false _ (sym c.ne.ensures ∙ c.if-ne.false)),
+    )
 
 pub copy_kept_bytes-requires-clause-inside : goal.copy_kept_bytes-requires-clause-inside
 copy_kept_bytes-requires-clause-inside c =
