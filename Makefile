@@ -4,7 +4,8 @@
 # `make lib` builds the library for C. `make install PREFIX=/usr/local` copies what these two built
 # to where users expect it, the libraries to LIBDIR, and builds nothing; `make uninstall` removes it.
 # `make table` prints the contracts. `make rustc` needs no kit: from the same sources plain rustc
-# builds out/rustc/target/release/chanv-rustc, with nothing proved.
+# builds out/rustc/target/release/chanv-rustc, with nothing proved. `make coq` needs no kit either: it
+# proves the laws again in Coq, and builds a second verifier, which is proved there.
 
 PREFIX ?= /usr/local
 LIBDIR ?= $(PREFIX)/lib
@@ -24,14 +25,14 @@ LIBRARIES = ccw_core ckd_core chan_args chan_areas chan_walk chan_needs chan_why
 DECK ?= examples/changes-argument.deck
 
 .PHONY: run libraries $(LIBRARIES) test audit proofs mutants unit_tests lib link install uninstall
-.PHONY: try rustc table can_prove can_link can_test
+.PHONY: try rustc coq table can_prove can_link can_test can_coq
 
 run: libraries
 	cd crates/chanv && rt run --jobs $(JOBS) < stdin
 	crates/chanv/out/chanv why examples/changes-itself.deck || test $$? -eq 1
 
 # What is missing is named at once, and not after a quarter of an hour.
-can_prove can_link can_test:
+can_prove can_link can_test can_coq:
 	@KIT='$(KIT)' CC='$(CC)' tests/tools $(@:can_%=%)
 
 # Two libraries are built at a time, and chan_args, which takes one processor, beside them.
@@ -60,6 +61,12 @@ rustc:
 	rustc/strip.py out/rustc
 	cd out/rustc && cargo build --quiet --release -p chanv
 	@echo "out/rustc/target/release/chanv-rustc is built, and nothing of it is proved"
+
+# Proves the laws again in Coq, over definitions translated from specs/, and judges a deck by the
+# verifier that is proved there; coq/README.md says more.
+coq: can_coq
+	$(MAKE) --no-print-directory -C coq
+	out/coq/chanv-coq verify $(DECK) || test $$? -eq 1
 
 # Prints each public function with the clauses of its contract and its mutants.
 table:
@@ -114,7 +121,7 @@ BUILT = crates/chanv/out/chanv out/libchanv.a out/libchanv.so.$(VERSION) out/cha
 # What the pages link to outside docs/, and the decks and programs that they name. README makes
 # examples/dump.deck.
 SHOWN = $(filter-out %/dump.deck,$(wildcard examples/*.* examples/*/*.*)) \
-  bench/README.md python/README.md rustc/README.md
+  bench/README.md coq/README.md python/README.md rustc/README.md
 TO = $(DESTDIR)$(PREFIX)
 TO_LIB = $(DESTDIR)$(LIBDIR)
 

@@ -138,7 +138,7 @@ def shown_files():
     """The pages and examples that go to the documents, from the top of the repository."""
     files = [ROOT / "README.md", ROOT / "CHANGELOG.md", *(ROOT / "docs").glob("*.svg")]
     files += [*(ROOT / "docs").glob("*.md"), *EXAMPLES.glob("*.*"), *EXAMPLES.glob("*/*.*")]
-    files += [ROOT / f"{it}/README.md" for it in ("bench", "python", "rustc")]
+    files += [ROOT / f"{it}/README.md" for it in ("bench", "coq", "python", "rustc")]
     return {str(it.relative_to(ROOT)) for it in files} - {"examples/dump.deck"}
 
 

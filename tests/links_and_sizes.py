@@ -12,7 +12,7 @@ from running import text_of
 
 README = ROOT / "README.md"
 DOCS = sorted((ROOT / "docs").glob("*.md"))
-OTHERS = [ROOT / "CHANGELOG.md", *(ROOT / f"{it}/README.md" for it in ("bench", "python", "rustc"))]
+OTHERS = [ROOT / "CHANGELOG.md", *(ROOT / f"{it}/README.md" for it in ("bench", "coq", "python", "rustc"))]
 OTHERS += sorted(ROOT.glob("examples/**/*.md"))
 PAGES = [README, *DOCS, *OTHERS]
 GLOSSARY = ROOT / "docs/GLOSSARY.md"
