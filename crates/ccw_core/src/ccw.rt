@@ -1,7 +1,7 @@
 //! The channel command word.
 
-ghost use Rattle.std.specs.Prelude.{◌≡◌, ◌≤◌, ◌<◌, ◌↔◌, ◌-◌, bit_and, IsTrue, IsSome};
-ghost use Rattle.std.specs.Prelude.{IsNone, IfSome, IfOk, is_some, string_bytes};
+ghost use Rattle.std.specs.Prelude.{◌≡◌, ◌≤◌, ◌<◌, ◌↔◌, ◌-◌, ◌++◌, bit_and, IsTrue};
+ghost use Rattle.std.specs.Prelude.{IsSome, IsNone, IfSome, IfOk, OnOk, is_some, string_bytes};
 ghost use Rattle.ccw_core.specs.Ccw.{Fields, bytes_of, ccw, ccw_text, is_formed, is_transfer};
 ghost use Rattle.ccw_core.specs.Ccw as specs;
 ghost use Rattle.ccw_core.specs.Flags.{bits_of};
@@ -9,7 +9,8 @@ ghost use Rattle.ccw_core.specs.Group.{group_of};
 ghost use Rattle.ccw_core.specs.declared.group.Group.TheVariants.{Transfer};
 ghost use Rattle.ccw_core.specs.declared.ccw.TheConstants.{STORAGE_LIMIT};
 
-use crate::flags::{CcwFlags, FlagColumn};
+use crate::digits::push_digits;
+use crate::flags::{CcwFlags, push_flags};
 use crate::group::Group;
 use bitflags::Flags;
 use byteorder::{BigEndian, ByteOrder};
@@ -184,18 +185,32 @@ impl Ccw {
         CcwFlags::from_bits(self.flags)
     }
 
-    /// The CCW as text: `code address flags spare count group`, with one space between two parts
-    /// and no end of line. An error means that an allocation failed.
+    /// Adds the CCW to a text: `code address flags spare count group`, with one space between two
+    /// parts and no end of line.
+    #[tactic(auto, unfolding(hex::specs::Hex::encode_with))]
+    pub fn push_text(&self, out: &mut String) -> Result<(), AllocError>
+        ensures { OnOk result (string_bytes out.new ≡ string_bytes out.old ++ ccw_text self.now) }
+    {
+        let [code, high, middle, low, flags, spare, count_high, count_low] = self.to_bytes();
+        push_digits(out, &[code])?;
+        out.push_str(" ")?;
+        push_digits(out, &[high, middle, low])?;
+        out.push_str(" ")?;
+        push_flags(out, flags)?;
+        out.push_str(" ")?;
+        push_digits(out, &[spare])?;
+        out.push_str(" ")?;
+        push_digits(out, &[count_high, count_low])?;
+        out.push_str(" ")?;
+        out.push_str(Group::of(code).word())
+    }
+
+    /// The CCW as text. An error means that an allocation failed.
     pub fn text(&self, alloc: Global) -> Result<String, AllocError>
         ensures { IfOk result (λ t. string_bytes t ≡ ccw_text self.now) }
     {
-        let [code, high, middle, low, flags, spare, count_high, count_low] = self.to_bytes();
-        let command = hex::encode_upper(alloc, [code])?;
-        let address = hex::encode_upper(alloc, [high, middle, low])?;
-        let flags = FlagColumn(flags);
-        let spare = hex::encode_upper(alloc, [spare])?;
-        let count = hex::encode_upper(alloc, [count_high, count_low])?;
-        let group = Group::of(code);
-        format!(in alloc; "{command} {address} {flags} {spare} {count} {group}")
+        let mut text = String::new(alloc);
+        self.push_text(&mut text)?;
+        Ok(text)
     }
 }

@@ -1,11 +1,12 @@
 //! The flags of a channel command word, by name and as the text shows them.
 
-ghost use Rattle.std.specs.Prelude.{⊤, ◌≡◌, ◌<◌, [], ◌∷◌, codes};
-ghost use Rattle.ccw_core.specs.Ccw.{letter_of};
+ghost use Rattle.std.specs.Prelude.{⊤, ◌≡◌, ◌<◌, ◌++◌, [], ◌∷◌, codes, OnOk, string_bytes};
+ghost use Rattle.ccw_core.specs.Ccw.{flag_letters, letter_of};
 ghost use Rattle.ccw_core.specs.Flags.{bits_of};
 
+use crate::digits::push_digit;
 use bitflags::{Flag, Flags, bitflag_items};
-use std::fmt;
+use std::alloc::AllocError;
 
 /// The named flags of a channel command word.
 ///
@@ -47,10 +48,6 @@ impl Flags for CcwFlags {
     }
 }
 
-/// A flag byte as text: the named flags by letter, the three low bits as a digit.
-#[derive(Clone, Copy)]
-pub(crate) struct FlagColumn(pub(crate) u8);
-
 fn letter(flags: u8, flag: CcwFlags, letter: char) -> char
     requires { letter < 128 }
     ensures value { result ≡ letter_of flags (bits_of flag) letter }
@@ -59,23 +56,14 @@ fn letter(flags: u8, flag: CcwFlags, letter: char) -> char
     if flags & flag.0 == 0 { '-' } else { letter }
 }
 
-impl fmt::Display for FlagColumn {
-    ghost use Rattle.std.specs.Prelude.{Some};
-    ghost use Rattle.ccw_core.specs.Ccw.{flag_letters};
-
-    ghost output = { λ c. Some (flag_letters c.0) };
-
-    fn fmt<W: fmt::Write>(&self, f: &mut fmt::Formatter<W>) -> fmt::Result {
-        let flags = self.0;
-        let data_chain = letter(flags, CcwFlags::CD, 'D');
-        let command_chain = letter(flags, CcwFlags::CC, 'C');
-        let suppress_length = letter(flags, CcwFlags::SLI, 'L');
-        let skip = letter(flags, CcwFlags::SKIP, 'S');
-        let interruption = letter(flags, CcwFlags::PCI, 'P');
-        let low = flags % 8;
-        write!(
-            f,
-            "{data_chain}{command_chain}{suppress_length}{skip}{interruption}{low}"
-        )
-    }
+/// Adds a flag byte to a text: the named flags by letter, the three low bits as a digit.
+pub(crate) fn push_flags(out: &mut String, flags: u8) -> Result<(), AllocError>
+    ensures { OnOk result (string_bytes out.new ≡ string_bytes out.old ++ flag_letters flags) }
+{
+    out.push(letter(flags, CcwFlags::CD, 'D'))?;
+    out.push(letter(flags, CcwFlags::CC, 'C'))?;
+    out.push(letter(flags, CcwFlags::SLI, 'L'))?;
+    out.push(letter(flags, CcwFlags::SKIP, 'S'))?;
+    out.push(letter(flags, CcwFlags::PCI, 'P'))?;
+    push_digit(out, flags % 8)
 }

@@ -3,8 +3,6 @@
 ghost use Rattle.std.specs.Prelude.{◌≡◌};
 ghost use Rattle.ccw_core.specs.Group.{group_of, group_word};
 
-use std::fmt;
-
 /// The group of a command code, by its low bits (System/360 Principles of Operation, A22-6821).
 #[derive(Clone, Copy, PartialEq, Eq)]
 pub enum Group {
@@ -41,7 +39,7 @@ impl Group {
     }
 
     /// The group's word in the text of a CCW.
-    pub(crate) fn word(self) -> &'static str
+    pub fn word(self) -> &'static str
         ensures { result.now ≡ group_word self }
     {
         match self {
@@ -53,15 +51,5 @@ impl Group {
             Group::Read => "read",
             Group::Control => "control",
         }
-    }
-}
-
-impl fmt::Display for Group {
-    ghost use Rattle.std.specs.Prelude.{Some};
-
-    ghost output = { λ g. Some (group_word g) };
-
-    fn fmt<W: fmt::Write>(&self, f: &mut fmt::Formatter<W>) -> fmt::Result {
-        f.write_str(self.word())
     }
 }

@@ -12,6 +12,7 @@
 
 mod areas;
 mod ccw;
+mod digits;
 mod flags;
 mod group;
 mod storage;
@@ -19,6 +20,7 @@ mod watched;
 
 pub use crate::areas::{Area, covers, gap_among};
 pub use crate::ccw::{Ccw, STORAGE_LIMIT};
+pub use crate::digits::{digits_of, push_digit, push_digits};
 pub use crate::flags::CcwFlags;
 pub use crate::group::Group;
 pub use crate::storage::{Storage, TooLarge};

@@ -49,15 +49,22 @@ short_address n bytes e lt z =
     ap last_six e ∙ last_digits n ∙ sym (six_digits n (omega arith))
 
 -- one whose first byte has one digit
+pub seven_told : (n : ℕ) (bytes : List ℕ) (k : ℕ) → bytes ≡ to_be_bytes w32 n → n < 2 ^ 32
+    → (0 < get_or bytes 0 0) × (get_or bytes 0 0 < 16) → k ≡ get_or bytes 0 0
+    → slice_index upper_digits k ∷ last_six bytes ≡ address_text n
+seven_told n bytes k e lt some h =
+    let first : get_or bytes 0 0 ≡ n / 16777216 % 256 = ap (λ b. get_or b 0 0) e in
+    let digit : k ≡ n / 16777216 = omega (arith, h, first) in
+    ap (λ j. slice_index upper_digits j ∷ last_six bytes) digit
+    ∙ ap (λ t. slice_index upper_digits (n / 16777216) ∷ t) (ap last_six e ∙ last_digits n)
+    ∙ sym (seven_digits n (omega (arith, some.0, first)) (omega (arith, some.1, first)))
+
+-- the same, with the digit as a character
 pub middle_address : (n : ℕ) (bytes : List ℕ) (k : ℕ) → bytes ≡ to_be_bytes w32 n → n < 2 ^ 32
     → (0 < get_or bytes 0 0) × (get_or bytes 0 0 < 16) → k ≡ get_or bytes 0 0
     → encode_utf8 (slice_index upper_digits k) ++ last_six bytes ≡ address_text n
 middle_address n bytes k e lt some h =
-    let first : get_or bytes 0 0 ≡ n / 16777216 % 256 = ap (λ b. get_or b 0 0) e in
-    let digit : k ≡ n / 16777216 = omega (arith, h, first) in
-    ap (λ t. t ++ last_six bytes) (encode_ascii (slice_index upper_digits k) (digit_ascii k)) ∙ ap (λ j. slice_index upper_digits j ∷ last_six bytes) digit
-    ∙ ap (λ t. slice_index upper_digits (n / 16777216) ∷ t) (ap last_six e ∙ last_digits n)
-    ∙ sym (seven_digits n (omega (arith, some.0, first)) (omega (arith, some.1, first)))
+    ap (λ t. t ++ last_six bytes) (encode_ascii (slice_index upper_digits k) (digit_ascii k)) ∙ seven_told n bytes k e lt some h
 
 -- one whose first byte has two
 pub long_address : (n : ℕ) (bytes : List ℕ) → bytes ≡ to_be_bytes w32 n → n < 2 ^ 32 → 16 ≤ get_or bytes 0 0

@@ -14,3 +14,4 @@ pub mod Graph
 pub mod Needs
 pub mod CauseWord
 pub mod ImageNote
+pub mod Shape

@@ -32,3 +32,7 @@ abbrev pub program_line : ℕ → Option Verdict → List ℕ → List ℕ
 program_line a None shape = address_text a ++ codes " too many places\n"
 program_line a (Some v) shape =
     address_text a ++ (codes " " ++ (verdict_words v ++ (shape ++ 10 ∷ [])))
+
+-- the line of a program that starts at an address and isn't judged
+abbrev pub unjudged_line : ℕ → List ℕ
+unjudged_line a = address_text a ++ codes " not judged\n"

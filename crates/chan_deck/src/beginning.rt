@@ -59,16 +59,17 @@ fn beginnings(alloc: Global, image: &[u8]) -> Result<Vec<u32>, AllocError> {
     Ok(found)
 }
 
-/// Where the transfer leads that follows a search, if these bytes begin with the two.
+/// Where the transfer leads that follows a search, if these bytes begin with the two. The transfer
+/// comes first, because most bytes aren't the code of one.
 fn loop_target(bytes: &[u8]) -> Option<u32> {
-    let search = Ccw::from_bytes(bytes.first_chunk()?);
-    let command = lookup(search.command())?;
-    let chains = search.chains_command() && !search.chains_data() && search.flags() % 8 == 0;
-    if command.kind() != Kind::Search || !chains || search.count() == 0 {
-        return None;
-    }
     let transfer = Ccw::from_bytes(bytes.get(8..)?.first_chunk()?);
     if !transfer.is_transfer() || transfer.address() % 8 != 0 {
+        return None;
+    }
+    let search = Ccw::from_bytes(bytes.first_chunk()?);
+    let chains = search.chains_command() && !search.chains_data() && search.flags() % 8 == 0;
+    let command = lookup(search.command())?;
+    if command.kind() != Kind::Search || !chains || search.count() == 0 {
         return None;
     }
     Some(transfer.address())

@@ -32,35 +32,29 @@ pub(crate) fn push_setting(out: &mut String, setting: Option<Setting>) -> Result
 }
 
 /// Adds the row of a place of a path, with what is set there.
-fn push_path_row(
-    alloc: Global,
-    out: &mut String,
-    job: &Job,
-    place: Place,
-    marked: bool,
-) -> Result<(), AllocError>
+fn push_path_row(out: &mut String, job: &Job, place: Place, marked: bool) -> Result<(), AllocError>
     ensures { OnOk result (AddsText (IsPathRow job.now place marked) (string_bytes out.old)
         (string_bytes out.new)) }
 {
     let (ccw, command) = standing_at(job, place.address);
-    push_words(alloc, out, place, ccw, command, marked)?;
+    push_words(out, place, ccw, command, marked)?;
     push_setting(out, setting_at(job, place))?;
     out.push('\n')
 }
 
 /// Adds a row for each place of a path, the last of them marked.
-fn push_path(alloc: Global, out: &mut String, job: &Job, path: &[Place]) -> Result<(), AllocError>
+fn push_path(out: &mut String, job: &Job, path: &[Place]) -> Result<(), AllocError>
     ensures { OnOk result (AddsText (ArePathRows job.now path.now) (string_bytes out.old)
         (string_bytes out.new)) }
 {
     for at in 0..path.len() {
-        push_path_row(alloc, out, job, path[at], at + 1 == path.len())?;
+        push_path_row(out, job, path[at], at + 1 == path.len())?;
     }
     Ok(())
 }
 
 /// Adds the path to what is changed, if there is one.
-fn push_second(alloc: Global, out: &mut String, job: &Job, path: &[Place]) -> Result<(), AllocError>
+fn push_second(out: &mut String, job: &Job, path: &[Place]) -> Result<(), AllocError>
     ensures { OnOk result (AddsText (AreSecondRows job.now path.now) (string_bytes out.old)
         (string_bytes out.new)) }
 {
@@ -68,7 +62,7 @@ fn push_second(alloc: Global, out: &mut String, job: &Job, path: &[Place]) -> Re
         return Ok(());
     }
     out.push_str("reached by\n")?;
-    push_path(alloc, out, job, path)
+    push_path(out, job, path)
 }
 
 /// What follows `because` on a path: the evidence, and the line that says which place stores over
@@ -144,11 +138,11 @@ fn push_witness(
     let Some(evidence) = witness.evidence else {
         return Ok(());
     };
-    push_path(alloc, out, job, witness.path.as_slice())?;
+    push_path(out, job, witness.path.as_slice())?;
     out.push_str("because ")?;
     let cause = cause_text(alloc, evidence, witness.stored_over)?;
     out.push_str(cause.as_str())?;
-    push_second(alloc, out, job, witness.second_path.as_slice())
+    push_second(out, job, witness.second_path.as_slice())
 }
 
 /// The line of a verdict, and what shows an offence: the path to an offending place, a row for each

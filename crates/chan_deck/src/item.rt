@@ -3,19 +3,19 @@
 ghost use Rattle.std.specs.Prelude.{◌≡◌, ◌<◌, ℕ, List, [], length, ◌∷◌, ◌++◌, OnOk};
 ghost use Rattle.std.specs.Prelude.{MatchBool, MatchOption};
 ghost use Rattle.std.specs.Int.{w64, to_be_bytes};
-ghost use Rattle.chan_deck.specs.Item.{HasDecimals, IsArea, LineReads, LineSays, area_digits};
+ghost use Rattle.chan_deck.specs.Item.{HasDecimals, IsArea, LineReads, LineSays};
 ghost use Rattle.chan_deck.specs.Item.{device, header, limit, mask, put, said_by, spelled, start};
 ghost use Rattle.chan_deck.specs.Item as item;
 ghost use Rattle.chan_deck.specs.declared.version.VersionNumber.{VersionNumber};
 
 use crate::digits::{address_of, byte_of, cylinder_of, places_of, size_of, word_of};
 use crate::spelling::{
-    cylinder_digits, limit_digits, push_address, push_area_digits, push_digits, push_size,
+    address_digits, area_digits, cylinder_digits, limit_digits, size_digits, word_digits,
 };
 use crate::version::VersionNumber;
-use ccw_core::Area;
+use ccw_core::{Area, digits_of};
 use ckd_core::Device;
-use std::alloc::{AllocError, Global};
+use std::alloc::AllocError;
 
 /// The length of a line that puts a doubleword, as nearly all lines of a long deck do.
 pub(crate) const PUT_LINE: usize = 27;
@@ -151,8 +151,8 @@ fn extent_of(line: &[u8]) -> Option<(u16, u16)>
 /// The area behind a word.
 fn area_of(line: &[u8], word: &[u8]) -> Option<Area>
     ensures { MatchOption result
-        ((a : Area) → IsArea a → line.now ≡ word.now ++ area_digits a → ⊥)
-        (λ a. IsArea a × (line.now ≡ word.now ++ area_digits a)) }
+        ((a : Area) → IsArea a → line.now ≡ word.now ++ item.area_digits a → ⊥)
+        (λ a. IsArea a × (line.now ≡ word.now ++ item.area_digits a)) }
 {
     let (start, len) = two_fields(line, word, 6)?;
     let start = address_of(start)?;
@@ -236,17 +236,17 @@ impl Item {
     }
 
     /// Appends the line that says this. What says nothing makes an empty line.
-    pub(crate) fn push(self, alloc: Global, out: &mut Vec<u8>) -> Result<(), AllocError>
+    pub(crate) fn push(self, out: &mut Vec<u8>) -> Result<(), AllocError>
         requires { HasDecimals self }
         ensures { OnOk result (out.new.items
             ≡ out.old.items ++ (spelled (said_by self) ++ 10 ∷ [])) }
     {
-        self.spell(alloc, out)?;
+        self.spell(out)?;
         out.extend_from_slice(b"\n")
     }
 
     /// Appends the line without its line feed.
-    fn spell(self, alloc: Global, out: &mut Vec<u8>) -> Result<(), AllocError>
+    fn spell(self, out: &mut Vec<u8>) -> Result<(), AllocError>
         requires { HasDecimals self }
         ensures { OnOk result (out.new.items ≡ out.old.items ++ spelled (said_by self)) }
     {
@@ -257,11 +257,11 @@ impl Item {
             Item::Device(Device::D2314) => out.extend_from_slice(b"device 2314"),
             Item::Mask(mask) => {
                 out.extend_from_slice(b"mask ")?;
-                push_digits(alloc, out, &[mask])
+                out.extend_from_slice(&digits_of(mask))
             }
             Item::Start(address) => {
                 out.extend_from_slice(b"start ")?;
-                push_address(alloc, out, address)
+                out.extend_from_slice(&address_digits(address))
             }
             Item::Limit(places) => {
                 out.extend_from_slice(b"limit ")?;
@@ -275,21 +275,21 @@ impl Item {
             }
             Item::Fetch(area) => {
                 out.extend_from_slice(b"fetch ")?;
-                push_area_digits(alloc, out, area)
+                out.extend_from_slice(&area_digits(area))
             }
             Item::Store(area) => {
                 out.extend_from_slice(b"store ")?;
-                push_area_digits(alloc, out, area)
+                out.extend_from_slice(&area_digits(area))
             }
             Item::Storage(size) => {
                 out.extend_from_slice(b"storage ")?;
-                push_size(alloc, out, size)
+                out.extend_from_slice(&size_digits(size))
             }
             Item::Put(address, word) => {
                 out.extend_from_slice(b"put ")?;
-                push_address(alloc, out, address)?;
+                out.extend_from_slice(&address_digits(address))?;
                 out.extend_from_slice(b" ")?;
-                push_digits(alloc, out, &word.to_be_bytes())
+                out.extend_from_slice(&word_digits(word))
             }
             Item::End => out.extend_from_slice(b"end"),
             Item::Formless | Item::Missing => Ok(()),

@@ -9,12 +9,11 @@ ghost use Rattle.ccw_core.specs.Storage.{ccw_at};
 ghost use Rattle.chan_deck.specs.Listing as list;
 ghost use Rattle.chan_walk.specs.Job.{storage_of};
 
-use crate::texts::{Address, verdict_text};
+use crate::texts::{push_address, push_verdict, verdict_text};
 use ccw_core::{Ccw, DeviceFault, Watched, write_out};
 use chan_walk::{Entry, Explored, Job, Look, Place, Verdict};
 use ckd_core::{Command, lookup};
 use std::alloc::{AllocError, Global};
-use std::fmt::Write as _;
 use std::io::Write;
 use thiserror::Error;
 
@@ -94,7 +93,6 @@ pub(crate) fn name_of(entered: Entry, ccw: &Ccw, command: Option<Command>) -> &'
 
 /// Adds the CCW at a place and its name to a text, or `no-ccw` where none stands.
 fn push_word(
-    alloc: Global,
     out: &mut String,
     entered: Entry,
     ccw: Option<Ccw>,
@@ -106,9 +104,9 @@ fn push_word(
     let Some(ccw) = ccw else {
         return out.push_str("no-ccw");
     };
-    let text = ccw.text(alloc)?;
-    let name = name_of(entered, &ccw, command);
-    write!(out, "{text} {name}")
+    ccw.push_text(out)?;
+    out.push_str(" ")?;
+    out.push_str(name_of(entered, &ccw, command))
 }
 
 /// The text of a CCW and the name of the command that begins there, as a row of a listing has them,
@@ -118,7 +116,7 @@ pub fn ccw_line(alloc: Global, ccw: Ccw) -> Result<String, AllocError>
 {
     let mut line = String::new(alloc);
     let command = lookup(ccw.command());
-    push_word(alloc, &mut line, Entry::Fresh, Some(ccw), command)?;
+    push_word(&mut line, Entry::Fresh, Some(ccw), command)?;
     line.push('\n')?;
     Ok(line)
 }
@@ -126,7 +124,6 @@ pub fn ccw_line(alloc: Global, ccw: Ccw) -> Result<String, AllocError>
 /// Adds the row of a place to a text without its line feed, given the CCW that stands there and the
 /// command of its code.
 pub(crate) fn push_words(
-    alloc: Global,
     out: &mut String,
     place: Place,
     ccw: Option<Ccw>,
@@ -136,17 +133,19 @@ pub(crate) fn push_words(
     ensures { OnOk result (string_bytes out.new
         ≡ string_bytes out.old ++ list.row_words place ccw (option_map entry_of command) marked) }
 {
-    let address = Address(place.address);
-    let way = way_word(place.entered);
-    let transfer = transfer_word(place.after_transfer);
-    let mark = mark_word(marked);
-    write!(out, "{address} {way} {transfer} {mark} ")?;
-    push_word(alloc, out, place.entered, ccw, command)
+    push_address(out, place.address)?;
+    out.push_str(" ")?;
+    out.push_str(way_word(place.entered))?;
+    out.push_str(" ")?;
+    out.push_str(transfer_word(place.after_transfer))?;
+    out.push_str(" ")?;
+    out.push_str(mark_word(marked))?;
+    out.push_str(" ")?;
+    push_word(out, place.entered, ccw, command)
 }
 
 /// Adds the row of a place with its line feed in the same way.
 fn push_row(
-    alloc: Global,
     out: &mut String,
     place: Place,
     ccw: Option<Ccw>,
@@ -156,7 +155,7 @@ fn push_row(
     ensures { OnOk result (string_bytes out.new
         ≡ string_bytes out.old ++ list.row_with place ccw (option_map entry_of command) marked) }
 {
-    push_words(alloc, out, place, ccw, command, marked)?;
+    push_words(out, place, ccw, command, marked)?;
     out.push('\n')
 }
 
@@ -183,7 +182,7 @@ pub fn row_text(alloc: Global, job: &Job, place: Place, marked: bool) -> Result<
 {
     let (ccw, command) = standing_at(job, place.address);
     let mut row = String::new(alloc);
-    push_row(alloc, &mut row, place, ccw, command, marked)?;
+    push_row(&mut row, place, ccw, command, marked)?;
     Ok(row)
 }
 
@@ -272,24 +271,19 @@ pub fn listing_text(alloc: Global, looks: &[Look], verdict: Verdict) -> Result<S
 {
     let mut text = String::new(alloc);
     for look in looks {
-        push_look(alloc, &mut text, look, verdict)?;
+        push_look(&mut text, look, verdict)?;
     }
-    let line = verdict_text(alloc, verdict)?;
-    text.push_str(line.as_str())?;
+    push_verdict(&mut text, verdict)?;
+    text.push('\n')?;
     Ok(text)
 }
 
 /// Adds the row of what a look showed, marked where the verdict names its address.
-fn push_look(
-    alloc: Global,
-    out: &mut String,
-    look: &Look,
-    verdict: Verdict,
-) -> Result<(), AllocError>
+fn push_look(out: &mut String, look: &Look, verdict: Verdict) -> Result<(), AllocError>
     ensures { OnOk result (string_bytes out.new
         ≡ string_bytes out.old ++ list.seen_row verdict look.now) }
 {
     let place = look.place();
     let marked = is_named(verdict, place.address);
-    push_row(alloc, out, place, look.ccw(), look.command(), marked)
+    push_row(out, place, look.ccw(), look.command(), marked)
 }

@@ -8,7 +8,7 @@ ghost use Rattle.chan_deck.specs.Item.{text};
 ghost use Rattle.chan_deck.specs.Needs as texts;
 
 use crate::item::Item;
-use crate::spelling::push_area_digits;
+use crate::spelling::area_digits;
 use crate::writing::{write_extents, write_fetch, write_store};
 use ccw_core::{Area, STORAGE_LIMIT};
 use chan_needs::{Needs, pairs_of};
@@ -50,20 +50,20 @@ pub fn in_six_digits(alloc: Global, areas: &[Area]) -> Result<Vec<Area>, AllocEr
 }
 
 /// The line of an area that is kept.
-fn write_keep(alloc: Global, out: &mut Vec<u8>, area: Area) -> Result<(), AllocError>
+fn write_keep(out: &mut Vec<u8>, area: Area) -> Result<(), AllocError>
     ensures { OnOk result (out.new.items ≡ out.old.items ++ (texts.keep_line area ++ 10 ∷ [])) }
 {
     out.extend_from_slice(b"keep ")?;
-    push_area_digits(alloc, out, area)?;
+    out.extend_from_slice(&area_digits(area))?;
     out.extend_from_slice(b"\n")
 }
 
 /// A line for each area that is kept.
-fn write_kept(alloc: Global, out: &mut Vec<u8>, areas: &[Area]) -> Result<(), AllocError>
+fn write_kept(out: &mut Vec<u8>, areas: &[Area]) -> Result<(), AllocError>
     ensures { OnOk result (out.new.items ≡ out.old.items ++ text (map texts.keep_line areas.now)) }
 {
     for area in areas {
-        write_keep(alloc, out, *area)?;
+        write_keep(out, *area)?;
     }
     Ok(())
 }
@@ -80,10 +80,10 @@ pub fn needs_text(alloc: Global, needs: &Needs) -> Result<Vec<u8>, AllocError>
     let store = in_six_digits(alloc, &needs.store)?;
     let keep = in_six_digits(alloc, &needs.keep)?;
     let mut text = Vec::new(alloc);
-    Item::Mask(needs.mask.byte()).push(alloc, &mut text)?;
-    write_extents(alloc, &mut text, &extents)?;
-    write_fetch(alloc, &mut text, &fetch)?;
-    write_store(alloc, &mut text, &store)?;
-    write_kept(alloc, &mut text, &keep)?;
+    Item::Mask(needs.mask.byte()).push(&mut text)?;
+    write_extents(&mut text, &extents)?;
+    write_fetch(&mut text, &fetch)?;
+    write_store(&mut text, &store)?;
+    write_kept(&mut text, &keep)?;
     Ok(text)
 }

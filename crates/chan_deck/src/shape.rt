@@ -1,5 +1,7 @@
 //! What a program looks like: how many CCWs it has, and its first commands. Tests hold the text.
 
+ghost use Rattle.std.specs.Prelude.{IfOk};
+ghost use Rattle.chan_deck.specs.Shape.{HasPlaceCount};
 ghost use Rattle.chan_walk.specs.JobSurvey.{IsSurvey};
 ghost use Rattle.chan_walk.specs.declared.job.Job.{Job};
 
@@ -11,9 +13,12 @@ use std::fmt::Write as _;
 const MOST_NAMES: usize = 4;
 
 /// How many CCWs a program has that was surveyed, and the names of its first commands, in the order
-/// in which the program comes to them, after a space. An error means that an allocation failed.
-pub fn shape_of(alloc: Global, survey: Survey) -> Result<String, AllocError>
+/// in which the program comes to them, after a space; and how many places it has. An error means
+/// that an allocation failed.
+pub fn shape_of(alloc: Global, survey: Survey) -> Result<(String, usize), AllocError>
     requires { (j : Job) × IsSurvey j survey }
+    ensures { (j : Job) → IsSurvey j survey
+        → IfOk result (λ shape. HasPlaceCount j shape.1) }
 {
     let names = first_names(alloc, survey.looks())?;
     let (looks, _offences) = survey.into_parts();
@@ -25,7 +30,8 @@ pub fn shape_of(alloc: Global, survey: Survey) -> Result<String, AllocError>
         }
     }
     let noun = if ccws == 1 { "CCW" } else { "CCWs" };
-    format!(in alloc; " {ccws} {noun}{names}")
+    let text = format!(in alloc; " {ccws} {noun}{names}")?;
+    Ok((text, looks.len()))
 }
 
 /// The names of the first commands, each after a comma, the first after a colon.

@@ -66,6 +66,7 @@ fn spelled_byte(digits: &str) -> Option<u8> {
 fn code_text(alloc: Global, code: u8) -> Result<String, AllocError> {
     let group = Ccw::from_bytes(&[code, 0, 0, 0, 0, 0, 0, 1]).group();
     let mut out = encode_upper(alloc, [code])?;
+    let group = group.word();
     write!(out, ": group {group}, ")?;
     match lookup(code) {
         Some(command) => {

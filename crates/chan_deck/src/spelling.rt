@@ -1,12 +1,11 @@
 //! Writing the digits of a deck.
 
-ghost use Rattle.std.specs.Prelude.{◌≡◌, ◌<◌, ◌++◌, OnOk};
+ghost use Rattle.std.specs.Prelude.{◌≡◌, ◌<◌};
+ghost use Rattle.std.specs.Int.{w64, to_be_bytes};
 ghost use Rattle.hex.specs.Hex.{encode_upper};
-ghost use Rattle.chan_deck.specs.Item.{address_digits, area_digits, size_digits};
 ghost use Rattle.chan_deck.specs.Item as item;
 
-use ccw_core::Area;
-use std::alloc::{AllocError, Global};
+use ccw_core::{Area, digits_of};
 
 /// The three digits of a cylinder.
 pub(crate) fn cylinder_digits(cylinder: u16) -> [u8; 3]
@@ -32,40 +31,56 @@ pub(crate) fn limit_digits(places: u32) -> [u8; 5]
     [ten_thousands, thousands, hundreds, tens, ones]
 }
 
-/// The digits of some bytes.
-pub(crate) fn push_digits(alloc: Global, out: &mut Vec<u8>, bytes: &[u8]) -> Result<(), AllocError>
-    ensures { OnOk result (out.new.items ≡ out.old.items ++ encode_upper bytes.now) }
-{
-    let digits = hex::encode_upper(alloc, bytes)?;
-    out.extend_from_slice(digits.as_bytes())
-}
-
 /// The six digits of an address.
-pub(crate) fn push_address(alloc: Global, out: &mut Vec<u8>, address: u32) -> Result<(), AllocError>
-    ensures { OnOk result (out.new.items ≡ out.old.items ++ address_digits address) }
+#[tactic(auto, unfolding(hex::specs::Hex::encode_with))]
+pub(crate) fn address_digits(address: u32) -> [u8; 6]
+    ensures { result ≡ item.address_digits address }
 {
     let [_, high, middle, low] = address.to_be_bytes();
-    push_digits(alloc, out, &[high, middle, low])
+    let ([a, b], [c, d], [e, f]) = (digits_of(high), digits_of(middle), digits_of(low));
+    [a, b, c, d, e, f]
 }
 
 /// The seven digits of a number of bytes.
-pub(crate) fn push_size(alloc: Global, out: &mut Vec<u8>, size: u32) -> Result<(), AllocError>
-    ensures { OnOk result (out.new.items ≡ out.old.items ++ size_digits size) }
+#[tactic(auto, unfolding(hex::specs::Hex::encode_with))]
+pub(crate) fn size_digits(size: u32) -> [u8; 7]
+    ensures { result ≡ item.size_digits size }
 {
-    let digits = hex::encode_upper(alloc, size.to_be_bytes())?;
-    let (_, seven) = digits.as_bytes().split_at(1);
-    out.extend_from_slice(seven)
+    let [first, _, _, _] = size.to_be_bytes();
+    let ([_, a], [b, c, d, e, f, g]) = (digits_of(first), address_digits(size));
+    [a, b, c, d, e, f, g]
 }
 
-/// The digits of an area.
-pub(crate) fn push_area_digits(
-    alloc: Global,
-    out: &mut Vec<u8>,
-    area: Area,
-) -> Result<(), AllocError>
-    ensures { OnOk result (out.new.items ≡ out.old.items ++ area_digits area) }
+/// The thirteen characters of an area.
+#[tactic(auto, unfolding(hex::specs::Hex::encode_with))]
+pub(crate) fn area_digits(area: Area) -> [u8; 13]
+    ensures { result ≡ item.area_digits area }
 {
-    push_address(alloc, out, area.start)?;
-    out.extend_from_slice(b" ")?;
-    push_address(alloc, out, area.len)
+    let [a, b, c, d, e, f] = address_digits(area.start);
+    let [g, h, i, j, k, l] = address_digits(area.len);
+    [a, b, c, d, e, f, b' ', g, h, i, j, k, l]
+}
+
+/// The eight digits of four bytes.
+#[tactic(auto, unfolding(hex::specs::Hex::encode_with))]
+fn half_digits(bytes: [u8; 4]) -> [u8; 8]
+    ensures { result ≡ encode_upper bytes }
+{
+    let [first, second, third, fourth] = bytes;
+    let ([a, b], [c, d]) = (digits_of(first), digits_of(second));
+    let ([e, f], [g, h]) = (digits_of(third), digits_of(fourth));
+    [a, b, c, d, e, f, g, h]
+}
+
+/// The sixteen digits of eight bytes, as the number that has them.
+#[tactic(auto, unfolding(hex::specs::Hex::encode_with))]
+pub(crate) fn word_digits(word: u64) -> [u8; 16]
+    ensures { result ≡ encode_upper (to_be_bytes w64 word) }
+{
+    let [a, b, c, d, e, f, g, h] = word.to_be_bytes();
+    let high = half_digits([a, b, c, d]);
+    let low = half_digits([e, f, g, h]);
+    let [a, b, c, d, e, f, g, h] = high;
+    let [i, j, k, l, m, n, o, p] = low;
+    [a, b, c, d, e, f, g, h, i, j, k, l, m, n, o, p]
 }

@@ -4,11 +4,10 @@ ghost use Rattle.std.specs.Prelude.{◌≡◌, ◌++◌, IfOk, OnOk, string_byte
 ghost use Rattle.hex.specs.Hex.{encode_upper};
 ghost use Rattle.chan_deck.specs.VerdictLine as text;
 
-use ccw_core::Area;
+use ccw_core::{Area, push_digit, push_digits};
 use chan_walk::Verdict;
 use std::alloc::{AllocError, Global};
 use std::fmt;
-use std::fmt::Write as _;
 
 /// The hexadecimal digits.
 const DIGITS: [char; 16] = [
@@ -100,8 +99,15 @@ pub(crate) fn push_address(out: &mut String, address: u32) -> Result<(), AllocEr
     ensures { OnOk result (string_bytes out.new
         ≡ string_bytes out.old ++ text.address_text address) }
 {
-    let address = Address(address);
-    write!(out, "{address}")
+    let [first, high, middle, low] = address.to_be_bytes();
+    if first >= 16 {
+        return push_digits(out, &[first, high, middle, low]);
+    }
+    if first > 0 {
+        push_digit(out, first)?;
+        return push_digits(out, &[high, middle, low]);
+    }
+    push_digits(out, &[high, middle, low])
 }
 
 /// Adds the addresses of the first byte of an area and of its last, if that is another.
@@ -123,9 +129,10 @@ pub(crate) fn push_verdict(out: &mut String, verdict: Verdict) -> Result<(), All
     match verdict {
         Verdict::Yes => out.push_str("yes"),
         Verdict::No { address, reason } => {
-            let address = Address(address);
-            let word = reason.word();
-            write!(out, "no {address} {word}")
+            out.push_str("no ")?;
+            push_address(out, address)?;
+            out.push_str(" ")?;
+            out.push_str(reason.word())
         }
     }
 }
@@ -152,13 +159,26 @@ pub fn program_text(
 ) -> Result<String, AllocError>
     ensures { IfOk result (λ t. string_bytes t ≡ text.program_line start verdict shape.now) }
 {
-    let start = Address(start);
+    let mut program = String::new(alloc);
+    push_address(&mut program, start)?;
     let Some(verdict) = verdict else {
-        return format!(in alloc; "{start} too many places\n");
+        program.push_str(" too many places\n")?;
+        return Ok(program);
     };
-    let mut line = format!(in alloc; "{start} ")?;
-    push_verdict(&mut line, verdict)?;
-    line.push_str(shape)?;
-    line.push('\n')?;
-    Ok(line)
+    program.push_str(" ")?;
+    push_verdict(&mut program, verdict)?;
+    program.push_str(shape)?;
+    program.push('\n')?;
+    Ok(program)
+}
+
+/// The line of a program that was found and isn't judged: its start, and `not judged`. An error
+/// means that an allocation failed.
+pub fn unjudged_text(alloc: Global, start: u32) -> Result<String, AllocError>
+    ensures { IfOk result (λ t. string_bytes t ≡ text.unjudged_line start) }
+{
+    let mut unjudged = String::new(alloc);
+    push_address(&mut unjudged, start)?;
+    unjudged.push_str(" not judged\n")?;
+    Ok(unjudged)
 }

@@ -3,9 +3,10 @@
 use std::alloc::{AllocError, Global};
 use strsim::levenshtein;
 
-/// A row for each word, in the order of the list. The row's first line is the word, a colon, a
-/// space, and what the word means in a few words. Further lines say it at length.
-pub const WORDS: [&'static str; 153] = [
+/// A row for each word that is explained at length, in the order of the list. The row's first line
+/// is the word, a colon, a space, and what the word means in a few words. Further lines say it at
+/// length.
+pub const WORDS_AT_LENGTH: [&'static str; 41] = [
     "misaligned: a CCW at an address that isn't a multiple of 8
 The CCW's address isn't a multiple of 8, so there can be no CCW.
 Correct the start, or the transfer in channel that leads there: nothing else
@@ -202,6 +203,10 @@ Write a CCW's eight bytes as two digits each, without spaces.",
     "no-such-word: a word that chanv doesn't know
 chanv doesn't know this word.
 `chanv explain` without a word lists all words.",
+];
+
+/// The rows of the other words, which come after these. The checker can't read both as one table.
+pub const WORDS_IN_SHORT: [&'static str; 113] = [
     "yes: no run of the program does harm, whatever the disk holds",
     "no: the CCW at this address offends, for this reason",
     "place: a CCW together with the way in which the program enters it",
@@ -259,6 +264,7 @@ chanv doesn't know this word.
     "note: a line on standard error that changes no answer and no status",
     "help: a line on standard error that says how to cure a no",
     "never ends by itself: in a picture, only the device or a Halt I/O stops it from here on",
+    "not judged: find has judged 16,777,216 places before; judge it alone, by a deck of chanv deck",
     "cannot open: see cannot-open",
     "no such file: see no-such-file",
     "permission denied: see permission-denied",
@@ -326,7 +332,15 @@ fn word_in(row: &'static str) -> &'static str {
 
 /// The row of a word, in upper or lower case.
 pub fn word_row(word: &str) -> Option<&'static str> {
-    for row in &WORDS {
+    match row_in(&WORDS_AT_LENGTH, word) {
+        Some(row) => Some(row),
+        None => row_in(&WORDS_IN_SHORT, word),
+    }
+}
+
+/// The row of a word, if these rows have it.
+fn row_in(rows: &[&'static str], word: &str) -> Option<&'static str> {
+    for row in rows {
         if word_in(row).eq_ignore_ascii_case(word) {
             return Some(*row);
         }
@@ -339,16 +353,29 @@ pub fn word_row(word: &str) -> Option<&'static str> {
 pub fn nearest_word(alloc: Global, text: &str) -> Result<Option<&'static str>, AllocError> {
     let mut small = String::from_str(alloc, text)?;
     small.make_ascii_lowercase();
-    let (mut nearest, mut fewest) = ("", usize::MAX);
-    for row in &WORDS {
-        let word = word_in(row);
-        let edits = levenshtein(alloc, small.as_str(), word)?;
-        if fewest <= edits {
-            continue;
-        }
-        nearest = word;
-        fewest = edits;
-    }
+    let mut fewest = usize::MAX;
+    let long = nearer_word(alloc, &WORDS_AT_LENGTH, small.as_str(), &mut fewest)?;
+    let short = nearer_word(alloc, &WORDS_IN_SHORT, small.as_str(), &mut fewest)?;
+    let nearest = short.or(long).unwrap_or("");
     let is_near = fewest <= nearest.len() / 3;
     Ok(if is_near { Some(nearest) } else { None })
+}
+
+/// The first word of these rows with the fewest edits from a text, if they are fewer than `fewest`,
+/// which they then become.
+fn nearer_word(
+    alloc: Global,
+    rows: &[&'static str],
+    text: &str,
+    fewest: &mut usize,
+) -> Result<Option<&'static str>, AllocError> {
+    let mut nearest = None;
+    for row in rows {
+        let word = word_in(row);
+        let edits = levenshtein(alloc, text, word)?;
+        if edits < *fewest {
+            (nearest, *fewest) = (Some(word), edits);
+        }
+    }
+    Ok(nearest)
 }

@@ -33,48 +33,36 @@ pub(crate) struct Preamble<'a> {
 }
 
 /// A line for each extent.
-pub(crate) fn write_extents(
-    alloc: Global,
-    out: &mut Vec<u8>,
-    extents: &[(u16, u16)],
-) -> Result<(), AllocError>
+pub(crate) fn write_extents(out: &mut Vec<u8>, extents: &[(u16, u16)]) -> Result<(), AllocError>
     requires { AllByRecursion IsExtent extents.now }
     ensures { OnOk result (out.new.items
         ≡ out.old.items ++ text (map line (map extent_of extents.now))) }
 {
     for pair in extents {
         let (first, last) = *pair;
-        Item::Extent(first, last).push(alloc, out)?;
+        Item::Extent(first, last).push(out)?;
     }
     Ok(())
 }
 
 /// A line for each area lent for fetching.
-pub(crate) fn write_fetch(
-    alloc: Global,
-    out: &mut Vec<u8>,
-    areas: &[Area],
-) -> Result<(), AllocError>
+pub(crate) fn write_fetch(out: &mut Vec<u8>, areas: &[Area]) -> Result<(), AllocError>
     ensures { OnOk result (out.new.items
         ≡ out.old.items ++ text (map line (map item.fetch areas.now))) }
 {
     for area in areas {
-        Item::Fetch(*area).push(alloc, out)?;
+        Item::Fetch(*area).push(out)?;
     }
     Ok(())
 }
 
 /// A line for each area lent for storing.
-pub(crate) fn write_store(
-    alloc: Global,
-    out: &mut Vec<u8>,
-    areas: &[Area],
-) -> Result<(), AllocError>
+pub(crate) fn write_store(out: &mut Vec<u8>, areas: &[Area]) -> Result<(), AllocError>
     ensures { OnOk result (out.new.items
         ≡ out.old.items ++ text (map line (map item.store areas.now))) }
 {
     for area in areas {
-        Item::Store(*area).push(alloc, out)?;
+        Item::Store(*area).push(out)?;
     }
     Ok(())
 }
@@ -90,7 +78,7 @@ fn doubleword_number(word: &[u8]) -> u64
 }
 
 /// A put for a doubleword, if it isn't zero.
-fn write_word(alloc: Global, out: &mut Vec<u8>, address: u32, word: &[u8]) -> Result<(), AllocError>
+fn write_word(out: &mut Vec<u8>, address: u32, word: &[u8]) -> Result<(), AllocError>
     requires { length word.now ≡ 8 }
     ensures { OnOk result (out.new.items ≡ out.old.items
         ++ (if zeros word.now then [] else line (put address word.now) ++ 10 ∷ [])) }
@@ -99,11 +87,11 @@ fn write_word(alloc: Global, out: &mut Vec<u8>, address: u32, word: &[u8]) -> Re
     if number == 0 {
         return Ok(());
     }
-    Item::Put(address, number).push(alloc, out)
+    Item::Put(address, number).push(out)
 }
 
 /// A put for each doubleword that isn't zero, of bytes that stand at an address.
-fn write_puts(alloc: Global, out: &mut Vec<u8>, at: u32, bytes: &[u8]) -> Result<(), AllocError>
+fn write_puts(out: &mut Vec<u8>, at: u32, bytes: &[u8]) -> Result<(), AllocError>
     requires { at + length bytes.now ≤ STORAGE_LIMIT }
     ensures { OnOk result (out.new.items
         ≡ out.old.items ++ text (map line (puts (length bytes.now / 8) at bytes.now))) }
@@ -112,7 +100,7 @@ fn write_puts(alloc: Global, out: &mut Vec<u8>, at: u32, bytes: &[u8]) -> Result
     let mut rest = bytes;
     while rest.len() >= 8 {
         let (word, after) = rest.split_at(8);
-        write_word(alloc, out, address, word)?;
+        write_word(out, address, word)?;
         address += 8;
         rest = after;
     }
@@ -120,7 +108,7 @@ fn write_puts(alloc: Global, out: &mut Vec<u8>, at: u32, bytes: &[u8]) -> Result
 }
 
 /// The line of the limit, in a version that has one.
-fn write_limit(alloc: Global, out: &mut Vec<u8>, version: Version) -> Result<(), AllocError>
+fn write_limit(out: &mut Vec<u8>, version: Version) -> Result<(), AllocError>
     ensures text { OnOk result (out.new.items
         ≡ out.old.items ++ text (map line (limit_line version))) }
     ensures limit { OnOk result (HasLimit version) }
@@ -128,15 +116,11 @@ fn write_limit(alloc: Global, out: &mut Vec<u8>, version: Version) -> Result<(),
     let Version::Two(limit) = version else {
         return Ok(());
     };
-    Item::Limit(limit.get()).push(alloc, out)
+    Item::Limit(limit.get()).push(out)
 }
 
 /// The lines before the lists.
-fn write_heading(
-    alloc: Global,
-    out: &mut Vec<u8>,
-    preamble: &Preamble<'_>,
-) -> Result<(), AllocError>
+fn write_heading(out: &mut Vec<u8>, preamble: &Preamble<'_>) -> Result<(), AllocError>
     ensures text { OnOk result (out.new.items
         ≡ out.old.items ++ text (map line (header (header_of preamble.now.version)
         ∷ device preamble.now.device ∷ mask preamble.now.mask ∷ start preamble.now.start
@@ -144,23 +128,23 @@ fn write_heading(
     ensures limit { OnOk result (HasLimit preamble.now.version) }
     ensures mask { OnOk result (IsByte preamble.now.mask × (is_mask preamble.now.mask ≡ true)) }
 {
-    Item::Header(preamble.version.header()).push(alloc, out)?;
-    Item::Device(preamble.device).push(alloc, out)?;
-    Item::Mask(preamble.mask.byte()).push(alloc, out)?;
-    Item::Start(preamble.start).push(alloc, out)?;
-    write_limit(alloc, out, preamble.version)
+    Item::Header(preamble.version.header()).push(out)?;
+    Item::Device(preamble.device).push(out)?;
+    Item::Mask(preamble.mask.byte()).push(out)?;
+    Item::Start(preamble.start).push(out)?;
+    write_limit(out, preamble.version)
 }
 
 /// The line of storage, which is zero up to an address and has some bytes from there on, and the
 /// puts.
-fn write_storage(alloc: Global, out: &mut Vec<u8>, at: u32, bytes: &[u8]) -> Result<(), AllocError>
+fn write_storage(out: &mut Vec<u8>, at: u32, bytes: &[u8]) -> Result<(), AllocError>
     requires { at + length bytes.now ≤ STORAGE_LIMIT }
     ensures { OnOk result (out.new.items
         ≡ out.old.items ++ text (map line (item.storage (at + length bytes.now)
         ∷ puts (length bytes.now / 8) at bytes.now))) }
 {
-    Item::Storage(at + bytes.len() as u32).push(alloc, out)?;
-    write_puts(alloc, out, at, bytes)
+    Item::Storage(at + bytes.len() as u32).push(out)?;
+    write_puts(out, at, bytes)
 }
 
 /// The text of the deck that says this before its storage, which is zero up to an address and has
@@ -180,12 +164,12 @@ pub(crate) fn text_of(
     ensures extents { OnOk result (AreExtents preamble.now.extents.now) }
 {
     let mut out = Vec::new(alloc);
-    write_heading(alloc, &mut out, preamble)?;
-    write_extents(alloc, &mut out, preamble.extents.pairs())?;
-    write_fetch(alloc, &mut out, preamble.fetch)?;
-    write_store(alloc, &mut out, preamble.store)?;
-    write_storage(alloc, &mut out, at, bytes)?;
-    Item::End.push(alloc, &mut out)?;
+    write_heading(&mut out, preamble)?;
+    write_extents(&mut out, preamble.extents.pairs())?;
+    write_fetch(&mut out, preamble.fetch)?;
+    write_store(&mut out, preamble.store)?;
+    write_storage(&mut out, at, bytes)?;
+    Item::End.push(&mut out)?;
     Ok(out)
 }
 
