@@ -1,18 +1,18 @@
 -- Bytes of areas, how they stay the same while areas are merged, and that there is one merged list for them.
-use Rattle.std.proofs.Common.{◌≡◌, ℕ, suc, ◌+◌, ◌-◌, ◌++◌, ◌↔◌, inl, inr, ◌<◌, ◌≤◌, true, ◌||◌, ◌&&◌, nat_le, nat_lt, List, [], ◌∷◌, length, get_or, take, refl, sym, ap, ◌∙◌, subst, ◌⊎◌, arith, append_assoc, IsPermutation, rules}
+use Rattle.std.proofs.Common.{set, ◌^◌, ◌≡◌, ℕ, suc, ◌+◌, ◌-◌, ◌++◌, ◌↔◌, inl, inr, ◌<◌, ◌≤◌, true, ◌||◌, ◌&&◌, nat_le, nat_lt, List, [], ◌∷◌, length, get_or, take, refl, sym, ap, ◌∙◌, subst, ◌⊎◌, arith, append_assoc, IsPermutation, rules}
 use Rattle.std.proofs.lemmas.Grind.{common_steps}
 use Rattle.std.specs.Cmp.Derive.{one_truth}
 use Rattle.std.specs.List.{All}
 use Rattle.std.specs.List.Sorted.{IsNonDecreasingBy}
 use Rattle.std.proofs.lemmas.Bool.{cases_lt, or_cases, or_left, or_right, and_from, le-leb, lt-ltb, both_ways}
-use Rattle.std.proofs.lemmas.List.{take_more, get_or_default}
+use Rattle.std.proofs.lemmas.List.{get_or-set_other, get_or_default, length-set, take_more, take_more_set}
 use Rattle.std.proofs.lemmas.List.Elements.{All-append, All-cons, All-head, All-nil, All-tail}
 use Rattle.std.proofs.lemmas.List.Folds.{list_any-append}
 use Rattle.std.proofs.lemmas.List.Sorted.{list_any-IsPermutation}
 use Rattle.ccw_core.specs.declared.areas.Area.{Area}
 use Rattle.ccw_core.specs.Areas.{end_of, lies_in}
 use Rattle.ccw_core.proofs.Covering.{lies_in-nil}
-use Rattle.chan_areas.specs.Merged.{start_of, IsByteOf, EndsBelow, BeginAbove, IsMerged, AreExactly, AreRuns, HaveSameBytes, MergedIsUnique}
+use Rattle.chan_areas.specs.Merged.{start_of, IsByteOf, EndsBelow, BeginAbove, IsMerged, AreExactly, AreMergedTo, AreRuns, HaveSameBytes, IsOneRun, MergedIsUnique}
 use Rattle.std.proofs.Math.Seq.{take-length}
 
 -- ---- bytes of areas
@@ -233,8 +233,69 @@ merged_both {P} {Q} xs ys all merged e h first second = record {
       );
 }
 
--- what becomes of a run that another area comes to
-pub ruleset run_joins = (run_stays, runs_later, run_begins, run_ends, run_grows)
+-- ---- one area more
 
--- what holds before the first area, and at the end
-pub ruleset runs_begin = (runs_first, bytes_first, bytes_end)
+module _ (given areas : List Area) (runs : ℕ) (run : Area) (at : ℕ) (area : Area) (m : AreMergedTo given areas runs run at)
+    (within : at < length areas) (is : area ≡ get_or areas at area) where
+  below : at < length given
+  below = omega (arith, m.each, within)
+
+  here : (d : Area) → get_or given at d ≡ area
+  here d = get_or_default given at d area below ∙ sym (m.rest at area (omega arith)) ∙ sym is
+
+  pub fits : EndsBelow (2 ^ 32) area
+  fits = subst (EndsBelow (2 ^ 32)) (here area) (m.fit at area below)
+
+  pub later : run.start ≤ area.start
+  later = subst (λ (a : Area). run.start ≤ a.start) (here area) (m.order at area (omega arith) below)
+
+  ahead : (start k : ℕ) (d : Area) → start ≤ area.start → at + 1 ≤ k → k < length given → start ≤ (get_or given k d).start
+  ahead start k d le low high = order_next given at k start area d m.sorted (subst (λ (a : Area). start ≤ a.start) (sym (here area)) le) low high
+
+  pub run_goes_on : (r : Area) → IsOneRun run area r → AreMergedTo given areas runs r (at + 1)
+  run_goes_on r one = record {
+    sorted = m.sorted;
+    fit = m.fit;
+    each = m.each;
+    rest = λ k d le. m.rest k d (omega (arith, le));
+    done = omega (arith, m.done);
+    begun = λ p. omega (arith, m.done);
+    apart = runs_later (take runs areas) run r one.later m.apart;
+    low = one.low;
+    order = λ k d le lt. ahead r.start k d one.order le lt;
+    bytes = λ b. bytes_next (take runs areas) (take runs areas) given run r area at b below (here area) (m.bytes b) (one.bytes (take runs areas) b);
+  }
+
+  pub run_is_done : 0 < run.len → end_of run < area.start → AreMergedTo given (set areas runs run) (runs + 1) area (at + 1)
+  run_is_done some gap = record {
+    sorted = m.sorted;
+    fit = m.fit;
+    each = length-set areas runs run ∙ m.each;
+    rest = λ k d le. get_or-set_other areas runs k run d (λ e. absurd (omega (arith, e, m.done, le))) ∙ m.rest k d (omega (arith, le));
+    done = omega (arith, m.done);
+    begun = λ p. omega (arith, m.begun some);
+    apart = runs_push (take runs areas) (take (runs + 1) (set areas runs run)) run area front some gap m.apart;
+    low = fits;
+    order = λ k d le lt. ahead area.start k d (omega arith) le lt;
+    bytes = λ b.
+        bytes_next (take runs areas) (take (runs + 1) (set areas runs run)) given run area area at b below (here area) (m.bytes b)
+        (run_ends (take runs areas) (take (runs + 1) (set areas runs run)) run area front b);
+  }
+    where
+      front : take (runs + 1) (set areas runs run) ≡ take runs areas ++ run ∷ []
+      front = take_more_set areas runs run (omega (arith, m.done, within))
+
+pub merged_first : (given : List Area) (run : Area) → IsNonDecreasingBy start_of given → All (EndsBelow (2 ^ 32)) given
+    → run.start ≡ 0 → run.len ≡ 0 → AreMergedTo given given 0 run 0
+merged_first given run sorted fit start len = record {
+  sorted = sorted;
+  fit = fit;
+  each = refl;
+  rest = λ k d le. refl;
+  done = omega arith;
+  begun = λ p. absurd (omega (arith, p, len));
+  apart = runs_first [] run refl;
+  low = omega (arith, start, len);
+  order = λ k d le lt. omega (arith, start);
+  bytes = λ b. sym (bytes_first [] run given b refl len);
+}

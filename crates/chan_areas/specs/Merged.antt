@@ -1,7 +1,8 @@
 -- Areas of storage merged into one list, and ranges that meet such a list.
-use Rattle.std.specs.Prelude.{◌≡◌, ℕ, ◌+◌, ◌<◌, ◌≤◌, ◌^◌, true, false, List, [], ◌∷◌, Option, None}
-use Rattle.std.specs.Prelude.{Some, ◌↔◌}
+use Rattle.std.specs.Prelude.{◌≡◌, ℕ, ◌+◌, ◌<◌, ◌≤◌, ◌^◌, true, false, List, [], ◌∷◌, ◌++◌, Option}
+use Rattle.std.specs.Prelude.{None, Some, ◌↔◌, length, slice_index_or, take}
 use Rattle.std.specs.List.{All}
+use Rattle.std.specs.List.Sorted.{IsNonDecreasingBy}
 use Rattle.ccw_core.specs.declared.areas.Area.{Area}
 use Rattle.ccw_core.specs.Areas.{end_of, lies_in}
 
@@ -51,6 +52,34 @@ pub record Meets (areas : List Area) (start len : ℕ) : Type 0 where
 pub record AreRuns (areas : List Area) (run : Area) : Type 0 where
   pub merged : IsMerged areas
   pub before : All (EndsBelow run.start) areas
+
+-- what a run and the next area are together: a run that begins no earlier than the old one and no
+-- later than the area, and has the bytes of both
+pub record IsOneRun (run area r : Area) : Type 0 where
+  pub later : run.start ≤ r.start
+  pub order : r.start ≤ area.start
+  pub low : EndsBelow (2 ^ 32) r
+  pub bytes : (xs : List Area) → HaveSameBytes (xs ++ r ∷ []) (xs ++ run ∷ area ∷ [])
+
+-- the same, or that the run is done, since a byte lies between
+abbrev pub IsJoined : Area → Area → Option Area → Type 0
+IsJoined run area None = (0 < run.len) × (end_of run < area.start)
+IsJoined run area (Some r) = IsOneRun run area r
+
+-- of the given areas, in order of start, the first `at` are merged: into the first runs of a list,
+-- which has the other areas from there on, and a last run
+pub record AreMergedTo (given areas : List Area) (runs : ℕ) (run : Area) (at : ℕ) : Type 0 where
+  pub sorted : IsNonDecreasingBy start_of given
+  pub fit : All (EndsBelow (2 ^ 32)) given
+  pub each : length areas ≡ length given
+  pub rest : (k : ℕ) (d : Area) → at ≤ k → slice_index_or areas k d ≡ slice_index_or given k d
+  pub done : runs ≤ at
+  pub begun : 0 < run.len → runs < at
+  pub apart : AreRuns (take runs areas) run
+  pub low : EndsBelow (2 ^ 32) run
+  pub order : (k : ℕ) (d : Area) → at ≤ k → k < length given
+      → run.start ≤ (slice_index_or given k d).start
+  pub bytes : HaveSameBytes (take runs areas ++ run ∷ []) (take at given)
 
 -- the first area of a merged list that ends above n: all that it says of the bytes from n on, up to
 -- the one after the area

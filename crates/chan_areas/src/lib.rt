@@ -1,11 +1,10 @@
 //! Areas of storage merged into one list, in which a byte or a range is found by binary search.
 //!
 //! ```
-//! fn is_lent(alloc: Global, areas: Vec<Area>, range: Area) -> Result<bool, AllocError>
+//! fn is_lent(areas: Vec<Area>, range: Area) -> bool
 //!     requires { All (EndsBelow (2 ^ 32)) areas.items }
 //! {
-//!     let merged = Merged::new(alloc, areas)?;
-//!     Ok(merged.first_outside(range).is_none())
+//!     Merged::new(areas).first_outside(range).is_none()
 //! }
 //! ```
 #![tactic(auto)]

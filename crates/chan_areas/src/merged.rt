@@ -1,14 +1,15 @@
 //! Areas merged into one list, in which a byte or a range is found by binary search.
 
-ghost use Rattle.std.specs.Prelude.{◌≡◌, ◌++◌, ◌∷◌, ◌<◌, ◌≤◌, ◌^◌, ◌↔◌, List, [], false, true};
-ghost use Rattle.std.specs.Prelude.{IfOk, IsTrue};
+ghost use Rattle.std.specs.Prelude.{◌≡◌, ◌<◌, ◌≤◌, ◌+◌, ◌++◌, ◌∷◌, ◌^◌, ◌↔◌, List, [], false};
+ghost use Rattle.std.specs.Prelude.{true, length, take, IfOk, IsTrue};
 ghost use Rattle.std.specs.List.{All};
 ghost use Rattle.std.specs.List.Sorted.{IsNonDecreasingBy};
 ghost use Rattle.ccw_core.specs.Areas as areas;
 ghost use Rattle.ccw_core.specs.Areas.{IsGap, lies_in};
 ghost use Rattle.ccw_core.specs.declared.areas.Area.{Area};
-ghost use Rattle.chan_areas.specs.Merged.{AreExactly, AreRuns, EndsBelow, HaveSameBytes, IsByteIn};
-ghost use Rattle.chan_areas.specs.Merged.{IsByteOf, IsLeastOrNone, IsMerged};
+ghost use Rattle.chan_areas.specs.Merged.{AreExactly, AreMergedTo, AreRuns, EndsBelow};
+ghost use Rattle.chan_areas.specs.Merged.{HaveSameBytes, IsByteIn, IsByteOf, IsJoined};
+ghost use Rattle.chan_areas.specs.Merged.{IsLeastOrNone, IsMerged};
 ghost use Rattle.chan_areas.specs.Merged.{IsNextArea, Meets, MergedIsUnique, start_of};
 
 use crate::clip::clip;
@@ -41,15 +42,15 @@ impl Model for Merged {
 impl Merged {
     /// The only merged list with the bytes of these areas. Each area has to end below 2^32.
     ///
-    /// It costs a sort.
-    pub fn new(alloc: Global, areas: Vec<Area>) -> Result<Merged, AllocError>
+    /// It costs a sort, and no memory.
+    pub fn new(areas: Vec<Area>) -> Merged
         requires { All (EndsBelow (2 ^ 32)) areas.items }
-        ensures { IfOk result (AreExactly (λ b. lies_in areas.items b ≡ true)) }
+        ensures { AreExactly (λ b. lies_in areas.items b ≡ true) result }
     {
         let mut areas = areas;
         areas.sort_unstable_by_key(|area| area.start);
-        let areas = merge_sorted(alloc, areas.as_slice())?;
-        Ok(Merged { areas })
+        merge_sorted(&mut areas);
+        Merged { areas }
     }
 
     /// The only merged list with the bytes of these areas that lie in storage of this length. It
@@ -62,7 +63,7 @@ impl Merged {
         for area in areas {
             parts.push(clip(*area, length))?;
         }
-        Merged::new(alloc, parts)
+        Ok(Merged::new(parts))
     }
 
     /// The list.
@@ -155,59 +156,77 @@ impl Merged {
     }
 }
 
-/// Extends the last run by `area`, or starts a new run and adds the last run to the merged runs.
-/// Two areas are one run if no byte lies between them.
-#[tactic(auto, using(crate::proofs::Merging::run_joins))]
-fn join(merged: &mut Vec<Area>, run: Area, area: Area) -> Result<Area, AllocError>
-    requires runs { AreRuns merged.old.items run }
+/// The run that a run and the next area are together; `None` if a byte lies between them.
+fn join(run: Area, area: Area) -> Option<Area>
     requires order { run.start ≤ area.start }
     requires low { EndsBelow (2 ^ 32) run }
     requires fits { EndsBelow (2 ^ 32) area }
-    ensures runs { IfOk result (λ r. AreRuns merged.new.items r) }
-    ensures order { IfOk result (λ r. r.start ≤ area.start) }
-    ensures low { IfOk result (λ r. EndsBelow (2 ^ 32) r) }
-    ensures bytes { IfOk result (λ r. HaveSameBytes (merged.new.items ++ r ∷ [])
-        (merged.old.items ++ run ∷ area ∷ [])) }
+    ensures { IsJoined run area result }
 {
     if area.len == 0 {
-        return Ok(run);
+        return Some(run);
     }
     if run.len == 0 {
-        return Ok(area);
+        return Some(area);
     }
     let end = run.start + run.len;
     if end < area.start {
-        merged.push(run)?;
-        return Ok(area);
+        return None;
     }
     let last = area.start + area.len;
     if last <= end {
-        return Ok(run);
+        return Some(run);
     }
-    Ok(Area {
+    Some(Area {
         start: run.start,
         len: last - run.start,
     })
 }
 
-/// Merges areas that are in order of start.
-#[tactic(auto, using(crate::proofs::Merging::runs_begin))]
-fn merge_sorted(alloc: Global, areas: &[Area]) -> Result<Vec<Area>, AllocError>
-    requires sorted { IsNonDecreasingBy start_of areas.now }
-    requires low { All (EndsBelow (2 ^ 32)) areas.now }
-    ensures merged { IfOk result (λ v. IsMerged v.items) }
-    ensures bytes { IfOk result (λ v. HaveSameBytes v.items areas.now) }
+/// Merges one area more into the first runs of a list, and gives their number and the last run.
+fn merge_next(areas: &mut Vec<Area>, runs: usize, run: Area, at: usize) -> (usize, Area)
+    requires merged { (given : List Area) × AreMergedTo given areas.old.items runs run at }
+    requires within { at < length areas.old.items }
+    ensures { (given : List Area) → AreMergedTo given areas.old.items runs run at
+        → AreMergedTo given areas.new.items result.0 result.1 (at + 1) }
 {
-    let mut merged = Vec::new(alloc);
-    let mut run = Area { start: 0, len: 0 };
-    for area in areas {
-        run = join(&mut merged, run, *area)?;
+    let area = areas[at];
+    if let Some(joined) = join(run, area) {
+        return (runs, joined);
     }
+    areas[runs] = run;
+    (runs + 1, area)
+}
+
+/// Adds the last run to the others, unless it is empty, and gives their number.
+fn end_last(areas: &mut Vec<Area>, runs: usize, run: Area) -> usize
+    requires runs { AreRuns (take runs areas.old.items) run }
+    requires room { 0 < run.len → runs < length areas.old.items }
+    ensures merged { IsMerged (take result areas.new.items) }
+    ensures bytes { HaveSameBytes (take result areas.new.items)
+        (take runs areas.old.items ++ run ∷ []) }
+{
     if run.len == 0 {
-        return Ok(merged);
+        return runs;
     }
-    merged.push(run)?;
-    Ok(merged)
+    areas[runs] = run;
+    runs + 1
+}
+
+/// Merges areas that are in order of start. The runs take the places of the areas.
+fn merge_sorted(areas: &mut Vec<Area>)
+    requires sorted { IsNonDecreasingBy start_of areas.old.items }
+    requires low { All (EndsBelow (2 ^ 32)) areas.old.items }
+    ensures merged { IsMerged areas.new.items }
+    ensures bytes { HaveSameBytes areas.new.items areas.old.items }
+{
+    let mut runs = 0;
+    let mut run = Area { start: 0, len: 0 };
+    for at in 0..areas.len() {
+        (runs, run) = merge_next(areas, runs, run, at);
+    }
+    let count = end_last(areas, runs, run);
+    areas.truncate(count);
 }
 
 /// A law: two merged lists with equal bytes are equal.

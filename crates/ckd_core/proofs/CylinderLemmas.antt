@@ -1,21 +1,13 @@
--- Which cylinders lie in some extent, by where the extents begin and how far they reach.
-use Rattle.std.proofs.Common.{◌≡◌, ℕ, ◌+◌, ◌≤◌, ◌<◌, Bool, false, ◌&&◌, ◌||◌, nat_eq, nat_lt, nat_le, List, [], ◌∷◌, length, get_or, refl, ap, arith}
+-- Which cylinders lie in some extent.
+use Rattle.std.proofs.Common.{take, ◌≡◌, ℕ, ◌+◌, ◌≤◌, ◌<◌, false, ◌&&◌, ◌||◌, nat_eq, nat_le, List, [], ◌∷◌, length, get_or, refl, ap, arith}
+use Rattle.std.proofs.lemmas.List.Folds.{list_any_more}
 use Rattle.std.specs.Bool.{Decides}
 use Rattle.std.specs.Cmp.Lexicographic.{pointwise_decides}
-use Rattle.std.specs.List.{list_any, AllByRecursion}
-use Rattle.std.specs.Ordering.{nat_cmp, ord_max}
+use Rattle.std.specs.List.{AllByRecursion}
 use Rattle.std.proofs.lemmas.Bool.Decides.{nat_tests, Decides-and, Decides-eqb}
 use Rattle.std.proofs.lemmas.List.Elements.{All-from_recursion}
 use Rattle.ckd_core.specs.Extents.{has_cylinder, IsExtent, same_extents}
 use Rattle.ckd_core.specs.declared.device.TheConstants.{CYLINDERS, LAST_CYLINDER}
-
--- some extent begins at the cylinder and reaches x
-abbrev pub reached_from : List (ℕ × ℕ) → ℕ → ℕ → Bool
-reached_from extents cylinder x = list_any (λ e. nat_eq e.0 cylinder && nat_le x e.1) extents
-
--- some extent begins below the cylinder and reaches x
-abbrev pub reached_below : List (ℕ × ℕ) → ℕ → ℕ → Bool
-reached_below extents cylinder x = list_any (λ e. nat_lt e.0 cylinder && nat_le x e.1) extents
 
 -- a pair of right ones is right
 pub extent_at : (extents : List (ℕ × ℕ)) (i : ℕ) → AllByRecursion IsExtent extents → i < length extents → IsExtent (get_or extents i (0, 0))
@@ -32,48 +24,12 @@ has_cylinder-past (e ∷ es) cylinder all past =
     let none : (nat_le e.0 cylinder && nat_le cylinder e.1) ≡ false = past_one e.0 e.1 cylinder all.0.1 past in
     rw none (has_cylinder-past es cylinder all.1 past)
 
--- what is below the larger of two numbers is below one of them
-pub nat_lt-ord_max : (x a b : ℕ) → nat_lt x (ord_max nat_cmp a b) ≡ (nat_lt x a || nat_lt x b)
-nat_lt-ord_max x a b = grind (arith, nat_tests)
-
--- below the next number is up to this one
-pub nat_lt-add_one : (x a : ℕ) → nat_lt x (a + 1) ≡ nat_le x a
-nat_lt-add_one x a = grind (arith, nat_tests)
-
--- no extent begins below cylinder 0
-pub reached_below-zero : (extents : List (ℕ × ℕ)) (x : ℕ) → reached_below extents 0 x ≡ false
-reached_below-zero [] x = refl
-reached_below-zero (e ∷ es) x =
-    let none : nat_lt e.0 0 ≡ false = grind (arith, nat_tests) in
-    rw (none, reached_below-zero es x) refl
-
-begins : (first cylinder : ℕ) (b : Bool) → (nat_lt first (cylinder + 1) && b) ≡ ((nat_lt first cylinder && b) || (nat_eq first cylinder && b))
-begins first cylinder b = grind (arith, nat_tests)
-
-shuffled : (p q r s : Bool) → ((p || q) || (r || s)) ≡ ((p || r) || (q || s))
-shuffled p q r s = grind arith
-
--- what begins below the next cylinder begins below this one or at it
-pub reached_below-next : (extents : List (ℕ × ℕ)) (cylinder x : ℕ)
-    → reached_below extents (cylinder + 1) x ≡ (reached_below extents cylinder x || reached_from extents cylinder x)
-reached_below-next [] cylinder x = refl
-reached_below-next (e ∷ es) cylinder x =
-    let one : (nat_lt e.0 (cylinder + 1) && nat_le x e.1) ≡ ((nat_lt e.0 cylinder && nat_le x e.1) || (nat_eq e.0 cylinder && nat_le x e.1)) =
-    begins e.0 cylinder (nat_le x e.1) in
-    rw (one, reached_below-next es cylinder x)
-    (shuffled (nat_lt e.0 cylinder && nat_le x e.1) (nat_eq e.0 cylinder && nat_le x e.1) (reached_below es cylinder x) (reached_from es cylinder x))
-
--- a cylinder lies in an extent exactly where one that begins no higher reaches it
-pub reached_below-has_cylinder : (extents : List (ℕ × ℕ)) (cylinder : ℕ) → reached_below extents (cylinder + 1) cylinder ≡ has_cylinder extents cylinder
+-- one extent more
+pub has_cylinder-more : (extents : List (ℕ × ℕ)) (i cylinder : ℕ) → i < length extents
+    → has_cylinder (take (i + 1) extents) cylinder
+    ≡ (has_cylinder (take i extents) cylinder || (nat_le (get_or extents i (0, 0)).0 cylinder && nat_le cylinder (get_or extents i (0, 0)).1))
 unfolding has_cylinder
-reached_below-has_cylinder [] cylinder = refl
-reached_below-has_cylinder (e ∷ es) cylinder =
-    let one : nat_lt e.0 (cylinder + 1) ≡ nat_le e.0 cylinder = nat_lt-add_one e.0 cylinder in
-    rw (one, reached_below-has_cylinder es cylinder) refl
-
--- nothing is below zero
-pub nat_lt-zero : (x : ℕ) → nat_lt x 0 ≡ false
-nat_lt-zero x = grind (arith, nat_tests)
+has_cylinder-more extents i cylinder below = list_any_more (λ e. nat_le e.0 cylinder && nat_le cylinder e.1) extents i (0, 0) below
 
 same_pair : (x y : ℕ × ℕ) → Decides (nat_eq x.0 y.0 && nat_eq x.1 y.1) (x ≡ y)
 same_pair x y =

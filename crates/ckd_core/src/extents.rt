@@ -1,8 +1,8 @@
 //! The extents of a file, in whole cylinders.
 
-ghost use Rattle.std.specs.Prelude.{◌≡◌, ◌≢◌, ℕ, ◌<◌, ◌&&◌, ◌==◌, nat_lt, nat_le, IfOk, IfErr};
-ghost use Rattle.std.specs.Prelude.{OnOk, IsOkUnless, MatchResult, slice_index};
-ghost use Rattle.std.specs.List.{AllByRecursion, list_any};
+ghost use Rattle.std.specs.Prelude.{◌≡◌, ◌≢◌, ℕ, ◌<◌, ◌≤◌, ◌&&◌, ◌||◌, false, nat_le, IfOk, IfErr};
+ghost use Rattle.std.specs.Prelude.{OnOk, IsOkUnless, MatchResult, slice_index_or};
+ghost use Rattle.std.specs.List.{AllByRecursion};
 ghost use Rattle.ckd_core.specs.Extents.{AreExtents, IsExtent, has_cylinder};
 ghost use Rattle.ckd_core.specs.Faults.{IsFault};
 ghost use Rattle.ckd_core.specs.HeldExtents.{IsHeldTable};
@@ -130,20 +130,13 @@ fn judge(pairs: &[(u16, u16)]) -> Result<(), ExtentError>
     Ok(())
 }
 
-/// For each cylinder, one more than the furthest last cylinder of the extents that begin there, or
-/// 0 if no extent begins there.
-fn ends(pairs: &[(u16, u16)]) -> [u16; CYLINDERS]
-    requires { AllByRecursion IsExtent pairs.now }
-    ensures { (c x : ℕ) → c < CYLINDERS → nat_lt x (slice_index result c)
-        ≡ list_any (λ e. e.0 == c && nat_le x e.1) pairs.now }
+/// Marks the cylinders of an extent as held.
+fn hold(held: &mut [bool; CYLINDERS], first: usize, last: usize)
+    requires { (first ≤ last) × (last < CYLINDERS) }
+    ensures { (c : ℕ) → c < CYLINDERS → slice_index_or held.new c false
+        ≡ (slice_index_or held.old c false || (nat_le first c && nat_le c last)) }
 {
-    let mut ends = [0; CYLINDERS];
-    for pair in pairs {
-        let (first, last) = *pair;
-        let first = usize::from(first);
-        ends[first] = ends[first].max(last + 1);
-    }
-    ends
+    held[first..last + 1].fill(true);
 }
 
 /// Which cylinders lie in some extent.
@@ -151,12 +144,10 @@ fn held_cylinders(pairs: &[(u16, u16)]) -> [bool; CYLINDERS]
     requires { AllByRecursion IsExtent pairs.now }
     ensures { IsHeldTable pairs.now result }
 {
-    let ends = ends(pairs);
     let mut held = [false; CYLINDERS];
-    let mut end = 0;
-    for cylinder in 0..CYLINDERS {
-        end = end.max(usize::from(ends[cylinder]));
-        held[cylinder] = cylinder < end;
+    for pair in pairs {
+        let (first, last) = *pair;
+        hold(&mut held, usize::from(first), usize::from(last));
     }
     held
 }

@@ -1,6 +1,5 @@
 use Rattle.std.proofs.Common.{◌∙◌, ◌^◌, ap, arith, map}
 use Rattle.std.proofs.lemmas.List.{take_all}
-use Rattle.std.proofs.lemmas.Result.{IfOk-weaker}
 use Rattle.chan_areas.specs.Clip.{clip}
 use Rattle.chan_areas.proofs.Clipping.{clipped_low, clipped_bytes}
 use Rattle.chan_areas.proofs.merged.Merged.clipped.Goals as goal
@@ -11,4 +10,4 @@ new-requires c = clipped_low c.args.length (2 ^ 32) _ c.loop-area.parts.items c.
 pub returns : goal.returns
 returns c =
     let all = c.loop-area.invariant ∙ ap (map (clip c.args.length)) (take_all c.loop-area.area-index c.args.areas.now (omega arith)) in
-    IfOk-weaker c.new.result _ _ (λ m h. clipped_bytes c.args.length c.args.areas.now c.loop-area.parts.items m all h) c.new.ensures
+    clipped_bytes c.args.length c.args.areas.now c.loop-area.parts.items c.new.result all c.new.ensures

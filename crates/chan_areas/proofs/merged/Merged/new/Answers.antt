@@ -1,6 +1,4 @@
-use Rattle.std.proofs.Common.{◌^◌, rules, subst, sym}
-use Rattle.std.specs.List.{All}
-use Rattle.std.specs.List.Sorted.{IsNonDecreasingBy}
+use Rattle.std.proofs.Common.{◌^◌, refl, rules}
 use Rattle.std.proofs.lemmas.List.Sorted.{IsNonDecreasingBy-from_sort_by_key, All-permutation}
 use Rattle.chan_areas.specs.Merged.{start_of, EndsBelow}
 use Rattle.chan_areas.proofs.Merging.{exactly_low, exactly_sorted}
@@ -8,22 +6,22 @@ use Rattle.chan_areas.proofs.merged.Merged.new.Goals as goal
 
 pub merge_sorted-requires-clause-sorted : goal.merge_sorted-requires-clause-sorted
 merge_sorted-requires-clause-sorted c =
-    subst (IsNonDecreasingBy start_of) (sym c.as_slice.ensures.value)
-    (IsNonDecreasingBy-from_sort_by_key start_of _ c.sort_unstable_by_key.ensures.sorted (λ a r q k. search rules))
+    IsNonDecreasingBy-from_sort_by_key start_of _ c.sort_unstable_by_key.ensures.sorted (λ a r q k. search rules)
 
 pub merge_sorted-requires-clause-low : goal.merge_sorted-requires-clause-low
 merge_sorted-requires-clause-low c =
-    subst (All (EndsBelow (2 ^ 32))) (sym c.as_slice.ensures.value)
-    (All-permutation (EndsBelow (2 ^ 32)) c.args.areas.items c.sort_unstable_by_key.new.self.items c.sort_unstable_by_key.ensures.permutation c.requires)
+    All-permutation (EndsBelow (2 ^ 32)) c.args.areas.items c.sort_unstable_by_key.new.self.items c.sort_unstable_by_key.ensures.permutation c.requires
 
 pub invariant_of-result : goal.invariant_of-result
 invariant_of-result c =
-    let is = c.in_ok-areas.ensures in
+    let is = c.merge_sorted.ensures in
     let exactly =
-    exactly_sorted c.args.areas.items _ _ c.in_ok-areas.areas.items c.sort_unstable_by_key.ensures.permutation c.as_slice.ensures.value is.merged is.bytes in
+    exactly_sorted c.args.areas.items c.sort_unstable_by_key.new.self.items c.sort_unstable_by_key.new.self.items c.merge_sorted.new.areas.items
+    c.sort_unstable_by_key.ensures.permutation refl is.merged is.bytes in
     (is.merged, exactly_low (2 ^ 32) _ _ exactly c.requires)
 
 pub returns : goal.returns
 returns c =
-    let is = c.in_ok-areas.ensures in
-    exactly_sorted c.args.areas.items _ _ c.in_ok-areas.areas.items c.sort_unstable_by_key.ensures.permutation c.as_slice.ensures.value is.merged is.bytes
+    let is = c.merge_sorted.ensures in
+    exactly_sorted c.args.areas.items c.sort_unstable_by_key.new.self.items c.sort_unstable_by_key.new.self.items c.merge_sorted.new.areas.items
+    c.sort_unstable_by_key.ensures.permutation refl is.merged is.bytes
