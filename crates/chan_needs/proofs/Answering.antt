@@ -1,5 +1,5 @@
 -- The question before a start has one answer at most.
-use Rattle.chan_needs.proofs.Names.{[], All, AllWithin, ap, Area, arith, both_ways, cases_lt, drop, HoldsAreas, inl, inr, IsCompatibleWith, IsFirstChanged, IsFit, IsInFlightAt, Job, List, Listed, listed_in, refl, Remembered, rules, storage_of, subst, sym, ℕ, ◌<◌, ◌∙◌, ◌∷◌, ◌≡◌, ◌≤◌, ◌⊎◌}
+use Rattle.chan_needs.proofs.Names.{[], All, AllWithin, ap, Area, arith, both_ways, cases_lt, drop, HoldsAreas, inl, inr, IsCompatibleWith, IsFirstChanged, IsFit, IsInFlightAt, Job, List, Listed, listed_in, refl, Remembered, rules, subst, sym, ℕ, ◌<◌, ◌∙◌, ◌∷◌, ◌≡◌, ◌≤◌, ◌⊎◌}
 use Rattle.chan_needs.proofs.Naming.{least_is_one, one_changed, same_number, same_program}
 use Rattle.chan_needs.proofs.Remembering.{at_number}
 use Rattle.chan_needs.specs.Listed.{IsConflict}

@@ -90,7 +90,7 @@ fn sought(alloc: Global, looks: &[Look]) -> Result<Merged, AllocError>
     for look in looks {
         add_cylinder(&mut cylinders, look)?;
     }
-    Merged::new(alloc, cylinders)
+    Ok(Merged::new(cylinders))
 }
 
 /// Adds the cylinder to which the seek at a place goes, if a seek begins there.

@@ -1,3 +1,5 @@
+pub mod AddressTable
+pub mod PlaceTable
 pub mod Following
 pub mod Visiting
 pub mod Marks

@@ -61,8 +61,8 @@ impl Guard {
             add_ccw(&mut ccws, look)?;
             add_argument(&mut arguments, look)?;
         }
-        let ccws = Merged::new(alloc, ccws)?;
-        let arguments = Merged::new(alloc, arguments)?;
+        let ccws = Merged::new(ccws);
+        let arguments = Merged::new(arguments);
         Ok(Guard { ccws, arguments })
     }
 

@@ -3,6 +3,7 @@
 ghost use Rattle.std.specs.Prelude.{◌≡◌, ◌↔◌, map};
 ghost use Rattle.std.specs.List.Sorted.{IsStrictlyIncreasing};
 ghost use Rattle.chan_walk.specs.Argument.{Has};
+ghost use Rattle.chan_walk.specs.PlaceTable.{IsIndexOf};
 ghost use Rattle.chan_walk.specs.Places.{AreDistinct, AreReachable, place_number};
 ghost use Rattle.chan_walk.specs.Look.{AreLooks, Seen, places_of_looks};
 ghost use Rattle.chan_walk.specs.Offence.{first_verdict};
@@ -13,6 +14,7 @@ use crate::guard::Guard;
 use crate::look::Look;
 use crate::offence::Offence;
 use crate::place::{Place, order_is_by_number};
+use crate::place_table::PlaceTable;
 use crate::verdict::Verdict;
 use std::marker::Model;
 
@@ -22,12 +24,15 @@ use std::marker::Model;
 pub struct Survey {
     pub(crate) looks: Vec<Look>,
     pub(crate) found_from: Vec<u32>,
+    pub(crate) table: PlaceTable,
     pub(crate) guard: Guard,
     pub(crate) offences: Vec<Offence>,
 }
 
 impl Model for Survey {
     ghost use Rattle.chan_walk.specs.JobSurvey.{Surveyed};
+    ghost use Rattle.chan_walk.specs.Look.{places_of_looks};
+    ghost use Rattle.chan_walk.specs.PlaceTable.{FindsPlaces};
 
     ghost Value = { Surveyed };
 
@@ -37,6 +42,8 @@ impl Model for Survey {
       guard = s.guard;
       offences = s.offences.items;
     } };
+
+    ghost invariant = { λ s. FindsPlaces s.table (places_of_looks s.looks.items) };
 }
 
 impl Survey {
@@ -54,6 +61,14 @@ impl Survey {
         ensures { result.now ≡ self.now.found_from }
     {
         self.found_from.as_slice()
+    }
+
+    /// The index of the look at a place; `None` if the place isn't reachable. It costs a few steps,
+    /// however many places there are.
+    pub fn index_of(&self, place: Place) -> Option<usize>
+        ensures { IsIndexOf (places_of_looks self.now.looks) place result }
+    {
+        self.table.index_of(self.looks(), place)
     }
 
     /// The guard: the bytes that the program may not change while it runs.

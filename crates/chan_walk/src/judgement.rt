@@ -40,18 +40,17 @@ pub fn survey(alloc: Global, job: &Job) -> Result<Survey, WalkError>
     safe_is_yes();
     job.show_proper();
     let walk = walk_all(alloc, job)?;
-    // For the checker alone: `iter` says that the marks are in order, by which places are counted.
-    let _marks = walk.marks.iter();
     let guard = Guard::of(alloc, walk.looks.as_slice())?;
     let offences = offences_of(alloc, &guard, walk.looks.as_slice())?;
     let Walk {
         looks,
         found_from,
-        ..
+        table,
     } = walk;
     Ok(Survey {
         looks,
         found_from,
+        table,
         guard,
         offences,
     })

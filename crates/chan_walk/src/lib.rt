@@ -10,6 +10,7 @@
 //! ```
 #![tactic(auto)]
 
+mod address_table;
 mod argument;
 mod bits;
 mod direction;
@@ -29,6 +30,7 @@ mod moved;
 mod offence;
 mod open_job;
 mod place;
+mod place_table;
 mod places;
 mod reason;
 mod setting;

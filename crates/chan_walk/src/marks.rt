@@ -1,14 +1,15 @@
 //! The ways in which a CCW is entered, kept as a bit for each.
 
-ghost use Rattle.std.specs.Prelude.{◌≡◌, ◌<◌, ◌++◌, ◌↔◌, IsTrue, OnOk, OnErr};
+ghost use Rattle.std.specs.Prelude.{◌≡◌, ◌++◌, IfOk, OnOk, OnErr};
 ghost use Rattle.chan_walk.specs.Marks as marked;
 ghost use Rattle.chan_walk.specs.Marks.{ways};
-ghost use Rattle.chan_walk.specs.Places.{way_of};
-ghost use Rattle.std.specs.Int.{bit_at};
-ghost use Rattle.chan_walk.specs.Walk.{Marks};
+ghost use Rattle.chan_walk.specs.Look.{places_of_looks};
+ghost use Rattle.chan_walk.specs.Walk.{Marks, MarksAgree};
 
 use crate::error::WalkError;
+use crate::look::Look;
 use crate::place::{Entry, Place};
+use std::alloc::Global;
 use std::collections::BTreeMap;
 
 /// In how many ways a CCW can be entered.
@@ -54,13 +55,6 @@ pub(crate) fn bits_at(marks: &BTreeMap<u32, u8>, address: u32) -> u8
     }
 }
 
-/// Whether a place is marked, where these are the marks of its address.
-pub(crate) fn is_marked(bits: u8, place: Place) -> bool
-    ensures { IsTrue result ↔ (bit_at bits (way_of place) ≡ 1) }
-{
-    (bits >> place.way()) & 1 == 1
-}
-
 /// Marks a place, where these are the marks of its address.
 pub(crate) fn mark(marks: &mut BTreeMap<u32, u8>, place: Place, bits: u8) -> Result<(), WalkError>
     requires { bits ≡ marked.marks_of marks.old place.address }
@@ -69,4 +63,18 @@ pub(crate) fn mark(marks: &mut BTreeMap<u32, u8>, place: Place, bits: u8) -> Res
 {
     marks.insert(place.address, bits | (1 << place.way()))?;
     Ok(())
+}
+
+/// The places that were looked at, as marks.
+pub(crate) fn marks_of_looks(alloc: Global, looks: &[Look]) -> Result<BTreeMap<u32, u8>, WalkError>
+    ensures ok { IfOk result (λ m. MarksAgree m (places_of_looks looks.now)) }
+    ensures memory { OnErr result (result ≡ Err WalkError.Memory) }
+{
+    let mut marks = BTreeMap::new(alloc);
+    for look in looks {
+        let place = look.place();
+        let bits = bits_at(&marks, place.address);
+        mark(&mut marks, place, bits)?;
+    }
+    Ok(marks)
 }

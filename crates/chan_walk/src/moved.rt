@@ -29,7 +29,7 @@ pub fn data_moved(alloc: Global, looks: &[Look], direction: Direction) -> Result
     for look in looks {
         add_range(&mut ranges, look, look.moves(direction))?;
     }
-    Merged::new(alloc, ranges)
+    Ok(Merged::new(ranges))
 }
 
 /// Adds the data range of the CCW at a place, if the CCW moves its data.
@@ -53,5 +53,5 @@ pub fn guarded_areas(alloc: Global, guard: &Guard) -> Result<Merged, AllocError>
     let mut areas = Vec::new(alloc);
     areas.extend_from_slice(guard.ccw_ranges())?;
     areas.extend_from_slice(guard.argument_ranges())?;
-    Merged::new(alloc, areas)
+    Ok(Merged::new(areas))
 }

@@ -4,28 +4,29 @@ ghost use Rattle.std.specs.Prelude.{◌≡◌, ◌<◌, ◌≤◌, ◌+◌, ◌^
 ghost use Rattle.chan_walk.specs.Places.{AreReachable, HasMoreThan};
 ghost use Rattle.chan_walk.specs.Lent.{AreLent};
 ghost use Rattle.chan_walk.specs.Look.{AreLooks, places_of_looks};
-ghost use Rattle.chan_walk.specs.Walk.{AddsPlace, MarksAgree, HasFound, IsTraced, IsWalked};
+ghost use Rattle.chan_walk.specs.PlaceTable.{FindsPlaces};
+ghost use Rattle.chan_walk.specs.Walk.{AddsPlace, HasFound, IsTraced, IsWalked};
 ghost use Rattle.chan_walk.specs.Walk.{HasNoRoomFor};
 
 use crate::error::WalkError;
 use crate::job::Job;
 use crate::lent::{Lending, Lent};
 use crate::look::{Look, look_by};
-use crate::marks::{bits_at, is_marked, mark};
+use crate::marks::marks_of_looks;
 use crate::place::{Place, first_place};
+use crate::place_table::PlaceTable;
 use crate::places::Explored;
 use std::alloc::Global;
-use std::collections::BTreeMap;
 
-/// What is seen of the places found, in the order in which they were, and the same places as marks.
+/// What is seen of the places found, in the order in which they were.
 #[derive(Drop)]
 pub(crate) struct Walk {
     /// A look at each place.
     pub(crate) looks: Vec<Look>,
     /// For each place the index of the one that it was found from; of the first place 0.
     pub(crate) found_from: Vec<u32>,
-    /// For each address the ways in which it is entered, as `Explored::marks_at` has them.
-    pub(crate) marks: BTreeMap<u32, u8>,
+    /// Where each place is among them.
+    pub(crate) table: PlaceTable,
 }
 
 impl Walk {
@@ -40,25 +41,24 @@ impl Walk {
     ) -> Result<(), WalkError>
         requires lent { AreLent job.now lent.now }
         requires looks { AreLooks job.now self.old.looks.items }
-        requires agrees { MarksAgree self.old.marks (places_of_looks self.old.looks.items) }
+        requires finds { FindsPlaces self.old.table (places_of_looks self.old.looks.items) }
         ensures ok { OnOk result (AddsPlace job.now.limit place from
             (places_of_looks self.old.looks.items) (places_of_looks self.new.looks.items)
             self.old.found_from.items self.new.found_from.items) }
         ensures looks { OnOk result (AreLooks job.now self.new.looks.items) }
-        ensures agrees { OnOk result
-            (MarksAgree self.new.marks (places_of_looks self.new.looks.items)) }
+        ensures finds { OnOk result
+            (FindsPlaces self.new.table (places_of_looks self.new.looks.items)) }
         ensures many { result ≡ Err WalkError.TooManyPlaces
             → HasNoRoomFor job.now.limit place (places_of_looks self.old.looks.items) }
     {
         if let Some(place) = place {
-            let bits = bits_at(&self.marks, place.address);
-            if !is_marked(bits, place) {
+            if self.table.index_of(self.looks.as_slice(), place).is_none() {
                 if self.looks.len() >= job.limit.get() as usize {
                     return Err(WalkError::TooManyPlaces);
                 }
                 self.looks.push(look_by(job, Lending::Merged(lent), place))?;
                 self.found_from.push(from)?;
-                mark(&mut self.marks, place, bits)?;
+                self.table.push(place)?;
             }
         }
         Ok(())
@@ -68,7 +68,7 @@ impl Walk {
     fn add_successors(&mut self, job: &Job, lent: &Lent, at: usize) -> Result<(), WalkError>
         requires lent { AreLent job.now lent.now }
         requires looks { AreLooks job.now self.old.looks.items }
-        requires agrees { MarksAgree self.old.marks (places_of_looks self.old.looks.items) }
+        requires finds { FindsPlaces self.old.table (places_of_looks self.old.looks.items) }
         requires walked { IsWalked job.now job.now.limit (places_of_looks self.old.looks.items) at }
         requires traced { IsTraced job.now (places_of_looks self.old.looks.items)
             self.old.found_from.items at at }
@@ -79,8 +79,8 @@ impl Walk {
         ensures traced { OnOk result (IsTraced job.now (places_of_looks self.new.looks.items)
             self.new.found_from.items (at + 1) (at + 1)) }
         ensures looks { OnOk result (AreLooks job.now self.new.looks.items) }
-        ensures agrees { OnOk result
-            (MarksAgree self.new.marks (places_of_looks self.new.looks.items)) }
+        ensures finds { OnOk result
+            (FindsPlaces self.new.table (places_of_looks self.new.looks.items)) }
         ensures many { result ≡ Err WalkError.TooManyPlaces → HasMoreThan job.now job.now.limit }
     {
         let next = self.looks[at].next();
@@ -104,13 +104,14 @@ pub fn explore(alloc: Global, job: &Job) -> Result<Explored, WalkError>
     ensures many { result ≡ Err WalkError.TooManyPlaces → HasMoreThan job.now job.now.limit }
 {
     let walk = walk_all(alloc, job)?;
-    Explored::from_marks(alloc, walk.marks)
+    let marks = marks_of_looks(alloc, walk.looks.as_slice())?;
+    Explored::from_marks(alloc, marks)
 }
 
 /// The walk over all reachable places, each of which is looked at once.
 pub(crate) fn walk_all(alloc: Global, job: &Job) -> Result<Walk, WalkError>
     ensures found { IfOk result (λ w. HasFound job.now w.looks.items w.found_from.items) }
-    ensures agrees { IfOk result (λ w. MarksAgree w.marks (places_of_looks w.looks.items)) }
+    ensures finds { IfOk result (λ w. FindsPlaces w.table (places_of_looks w.looks.items)) }
     ensures many { result ≡ Err WalkError.TooManyPlaces → HasMoreThan job.now job.now.limit }
 {
     // For the checker alone: `get` says that the limit is small, so that an index fits.
@@ -119,7 +120,7 @@ pub(crate) fn walk_all(alloc: Global, job: &Job) -> Result<Walk, WalkError>
     let mut walk = Walk {
         looks: Vec::new(alloc),
         found_from: Vec::new(alloc),
-        marks: BTreeMap::new(alloc),
+        table: PlaceTable::new(alloc),
     };
     walk.add(job, &lent, Some(first_place(job)), 0)?;
     let mut at = 0;

@@ -1,5 +1,5 @@
 -- The first place at which a program may hang is the only one.
-use Rattle.chan_why.proofs.Names.{arith, None, Option, Place, refl, Some, ◌≡◌}
+use Rattle.chan_why.proofs.Names.{arith, None, refl, Some, ◌≡◌}
 use Rattle.chan_walk.proofs.Algorithms.Marks.{same_number}
 use Rattle.chan_walk.specs.Places.{place_number}
 use Rattle.chan_why.specs.Hang.{OneFirstHang}

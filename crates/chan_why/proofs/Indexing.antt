@@ -1,9 +1,10 @@
 -- Indexes of what a walk has looked at.
-use Rattle.chan_why.proofs.Names.{[], ap, AreDistinct, AreLooks, argument_seen, arith, at_has, cases_eq, cases_lt, get_or, Has, has_at, HasLikeOffence, inl, inr, IsArgumentByteOf, IsAtPlace, IsFirstWhere, IsIndex, IsLeastOf, IsLeastOrNone, IsOfKind, IsSome, Job, length, List, nat_cmp, None, number_of_places, Offence, offence, Option, Place, place_number, places_of_looks, Reason, refl, rules, same_number, Seen, slice_get, slice_get-get_or, slice_get_within, Some, subst, suc, sym, TakesByte, TakesSoFar, zero, ℕ, ◌+◌, ◌<◌, ◌↔◌, ◌∙◌, ◌∷◌, ◌≡◌, ◌≤◌, ◌⊎◌}
+use Rattle.chan_why.proofs.Names.{[], ap, AreDistinct, AreLooks, argument_seen, arith, at_has, cases_eq, cases_lt, get_or, Has, has_at, HasLikeOffence, inl, inr, IsArgumentByteOf, IsFirstWhere, IsIndex, IsLeastOf, IsLeastOrNone, IsOfKind, IsSome, Job, length, List, nat_cmp, None, number_of_places, Offence, offence, Option, Place, places_of_looks, Reason, refl, rules, Seen, slice_get, slice_get-get_or, slice_get_within, Some, subst, suc, sym, TakesByte, TakesSoFar, zero, ℕ, ◌+◌, ◌<◌, ◌↔◌, ◌∙◌, ◌∷◌, ◌≡◌, ◌≤◌, ◌⊎◌}
 use Rattle.std.proofs.Common.{◌*◌}
 use Rattle.std.specs.BTreeMap.{BTreeMap}
 use Rattle.std.specs.BTreeMap as tree
 use Rattle.chan_why.specs.Finder.{IsLesserOf, KeepsLeast, kind_number}
+use Rattle.chan_walk.specs.PlaceTable.{IsIndexOf}
 use Rattle.chan_walk.specs.Reason.{number_of}
 use Rattle.chan_walk.proofs.Algorithms.Tracing.{same_index}
 use Rattle.chan_walk.proofs.Algorithms.Walking.{place_there}
@@ -103,23 +104,6 @@ module _ (ls : List Seen) (i : ℕ) (l : Seen) (h : i < length ls) (is : l ≡ g
   same_look : (m : Seen) → slice_get ls i ≡ Some m → m ≡ l
   same_look m e = let s : ◌≡◌ {A = Option Seen} (Some m) (Some l) = sym e ∙ here in cc
 
-  pub place_more : (n : ℕ) → n ≡ place_number l.place → (k a : ℕ) → IsAtPlace ls (i + 1) k a ↔ (IsAtPlace ls i k a ⊎ ((k ≡ n) × (a ≡ i)))
-  place_more n e k a = (to, from)
-    where
-      to : IsAtPlace ls (i + 1) k a → IsAtPlace ls i k a ⊎ ((k ≡ n) × (a ≡ i))
-      to g = at (cases_lt a i)
-        where
-          at : (a < i) ⊎ (i ≤ a) → IsAtPlace ls i k a ⊎ ((k ≡ n) × (a ≡ i))
-          at (inl c) = inl (c, g.1)
-          at (inr c) =
-              let d : a ≡ i = omega (arith, g.0) in
-              let s = same_look g.1.0 (subst (λ z. slice_get ls z ≡ Some g.1.0) d g.1.1) in
-              inr (g.1.2 ∙ ap (λ (m : Seen). place_number m.place) s ∙ sym e, d)
-
-      from : IsAtPlace ls i k a ⊎ ((k ≡ n) × (a ≡ i)) → IsAtPlace ls (i + 1) k a
-      from (inl g) = (omega (arith, g.0), g.1)
-      from (inr g) = (omega (arith, g.1), (l, subst (λ z. slice_get ls z ≡ Some l) (sym g.1) here, g.0 ∙ e))
-
   -- all of its bytes
   pub bytes_all : (n : ℕ) → length (argument_seen l) ≤ n → (k a : ℕ) → TakesSoFar ls i (argument_seen l) n k a ↔ TakesByte ls (i + 1) k a
   bytes_all n all k a = (to, from)
@@ -147,24 +131,17 @@ look_there (x ∷ ls) zero p e = let s : x.place ≡ p = cc in (x, refl, s)
 look_there (x ∷ ls) (suc k) p e = look_there ls k p e
 
 -- a place that was looked at has an index
-pub some_place : (ls : List Seen) (p : Place) (o : Option ℕ)
-    → IsLeastOrNone (IsAtPlace ls (length ls) (place_number p)) o → Has (places_of_looks ls) p → IsSome o
-some_place ls p None none h =
-    let k = at_has (places_of_looks ls) p h in
-    let l = look_there ls k.0 p k.2 in
-    absurd (none k.0 (omega (arith, k.1, number_of_places ls), (l.0, l.1, ap place_number (sym l.2))))
-some_place ls p (Some b) is h = refl
+pub some_index : (ps : List Place) (p : Place) (o : Option ℕ) → IsIndexOf ps p o → Has ps p → IsSome o
+some_index ps p None none h = absurd (none h)
+some_index ps p (Some k) is h = refl
 
 module _ (ls : List Seen) (distinct : AreDistinct (places_of_looks ls)) (os : List Offence) (i : ℕ) (o d : Offence)
-    (h : i < length os) (is : o ≡ get_or os i d) (at : ℕ) (found : IsLeastOf (IsAtPlace ls (length ls) (place_number o.place)) at) where
+    (h : i < length os) (is : o ≡ get_or os i d) (at : ℕ) (found : slice_get (places_of_looks ls) at ≡ Some o.place) where
   there : slice_get os i ≡ Some o
   there = slice_get-get_or os i d h ∙ ap Some (sym is)
 
   abbrev seen : Seen
-  seen = found.0.1.0
-
-  seen_at : seen.place ≡ o.place
-  seen_at = sym (same_number o.place seen.place found.0.1.2)
+  seen = (look_there ls at o.place found).0
 
   pub kind_more : (n : ℕ) → n ≡ kind_number o → (k a : ℕ) → IsOfKind ls os (i + 1) k a ↔ (IsOfKind ls os i k a ⊎ ((k ≡ n) × (a ≡ at)))
   kind_more n e k a = (to, from)
@@ -188,10 +165,10 @@ module _ (ls : List Seen) (distinct : AreDistinct (places_of_looks ls)) (os : Li
               let z : g.number ≡ i = omega arith in
               let s : ◌≡◌ {A = Option Offence} (Some g.offence) (Some o) = sym (subst (λ y. slice_get os y ≡ Some g.offence) z g.listed) ∙ there in
               let same : g.offence ≡ o = cc in
-              let place : g.look.place ≡ seen.place = g.place ∙ ap (λ (t : Offence). t.place) same ∙ sym seen_at in
+              let place : g.look.place ≡ o.place = g.place ∙ ap (λ (t : Offence). t.place) same in
               inr (
                 g.kind ∙ ap kind_number same ∙ sym e,
-                same_index (places_of_looks ls) seen.place a at distinct (place_there ls a g.look g.seen ∙ ap Some place) (place_there ls at seen found.0.1.1),
+                same_index (places_of_looks ls) o.place a at distinct (place_there ls a g.look g.seen ∙ ap Some place) found,
               )
 
       from : IsOfKind ls os i k a ⊎ ((k ≡ n) × (a ≡ at)) → IsOfKind ls os (i + 1) k a
@@ -212,8 +189,8 @@ module _ (ls : List Seen) (distinct : AreDistinct (places_of_looks ls)) (os : Li
         below = omega arith;
         listed = there;
         kind = g.0 ∙ e;
-        seen = subst (λ y. slice_get ls y ≡ Some seen) (sym g.1) found.0.1.1;
-        place = seen_at;
+        seen = subst (λ y. slice_get ls y ≡ Some seen) (sym g.1) (look_there ls at o.place found).1;
+        place = (look_there ls at o.place found).2;
       }
 
 -- ---- the first place that is found

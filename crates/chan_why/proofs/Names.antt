@@ -32,7 +32,7 @@ pub use Rattle.chan_walk.specs.declared.place.Entry.{Entry}
 pub use Rattle.chan_walk.specs.declared.place.Place.{Place}
 pub use Rattle.chan_walk.specs.declared.reason.Reason.{Reason}
 pub use Rattle.chan_why.specs.Evidence.{IsArgumentIn, IsEvidenceAt, IsCcwIn}
-pub use Rattle.chan_why.specs.Finder.{IsAtPlace, IsIndex, IsOfKind, TakesByte, TakesSoFar}
+pub use Rattle.chan_why.specs.Finder.{IsIndex, IsOfKind, TakesByte, TakesSoFar}
 pub use Rattle.chan_why.specs.Hang.{AddsPredecessor, AreBuckets, ArePredecessors, bucket_of, BucketEndsAt, EndsAfter, EndsTheProgram, FindsMore, HasBefore, IsFirstPlace, IsLeftUnmarked, MarksFound, one_after}
 pub use Rattle.chan_why.specs.Notes.{ends_there, fills_spare, has_byte_of, has_machine_byte, interrupts, is_idle, moves_nothing}
 pub use Rattle.chan_why.specs.Path.{IsFirstWhere, IsPathAt}

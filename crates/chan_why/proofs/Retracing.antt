@@ -11,43 +11,13 @@ use Rattle.chan_walk.specs.Walk.{Follows, IsAmong}
 use Rattle.chan_why.specs.Hang.{CanEnd, ComesAfter, ComesBefore, IsEarlier, MayHang, end_after}
 use Rattle.chan_walk.proofs.Algorithms.Looking.{clear_shows_none}
 use Rattle.chan_walk.proofs.Algorithms.Walking.{follows_exactly}
-use Rattle.chan_walk.proofs.Theory.Lists.{has_left}
+use Rattle.chan_walk.proofs.Theory.Lists.{front_at, has_left, last_at, pushed, same_at, taken_at}
 use Rattle.chan_why.proofs.Indexing.{look_there}
 
 has_get : (xs : List ℕ) (i : ℕ) → i < length xs → Has xs (get_or xs i 0)
 has_get [] i h = absurd (omega arith)
 has_get (x ∷ xs) zero h = inl refl
 has_get (x ∷ xs) (suc i) h = inr (has_get xs i (omega arith))
-
--- ---- lists by their indexes
-
-same_at : {X : Type 0} (xs : List X) (i k : ℕ) (x y : X) → slice_get xs i ≡ Some x → slice_get xs k ≡ Some y → i ≡ k → x ≡ y
-same_at xs i k x y e d is = let s : Some x ≡ Some y = sym e ∙ ap (slice_get xs) is ∙ d in cc
-
-pushed : {X : Type 0} (xs : List X) (x y : X) (i : ℕ) → slice_get (xs ++ x ∷ []) i ≡ Some y → (slice_get xs i ≡ Some y) ⊎ ((i ≡ length xs) × (x ≡ y))
-pushed [] x y zero e = let s : x ≡ y = cc in inr (refl, s)
-pushed [] x y (suc i) e = absurd (cc)
-pushed (z ∷ xs) x y zero e = inl e
-pushed (z ∷ xs) x y (suc i) e = go (pushed xs x y i e)
-  where
-    go : (slice_get xs i ≡ Some y) ⊎ ((i ≡ length xs) × (x ≡ y)) → (slice_get xs i ≡ Some y) ⊎ ((suc i ≡ suc (length xs)) × (x ≡ y))
-    go (inl h) = inl h
-    go (inr h) = inr (ap suc h.0, h.1)
-
-front_at : {X : Type 0} (xs ys : List X) (i : ℕ) (x : X) → slice_get xs i ≡ Some x → slice_get (xs ++ ys) i ≡ Some x
-front_at [] ys i x e = absurd (cc)
-front_at (z ∷ xs) ys zero x e = e
-front_at (z ∷ xs) ys (suc i) x e = front_at xs ys i x e
-
-last_at : {X : Type 0} (xs : List X) (x : X) → slice_get (xs ++ x ∷ []) (length xs) ≡ Some x
-last_at [] x = refl
-last_at (z ∷ xs) x = last_at xs x
-
-taken_at : {X : Type 0} (xs : List X) (m i : ℕ) → i < m → slice_get (take m xs) i ≡ slice_get xs i
-taken_at xs zero i l = absurd (omega arith)
-taken_at [] (suc m) i l = refl
-taken_at (z ∷ xs) (suc m) zero l = refl
-taken_at (z ∷ xs) (suc m) (suc i) l = taken_at xs m i (omega arith)
 
 -- ---- buckets
 

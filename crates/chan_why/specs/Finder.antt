@@ -8,18 +8,12 @@ use Rattle.chan_why.specs.declared.finder.Finder.{Finder}
 use Rattle.chan_walk.specs.declared.offence.Offence.{Offence}
 use Rattle.chan_walk.specs.Argument.{Has}
 use Rattle.chan_areas.specs.Merged.{IsLeastOrNone}
-use Rattle.chan_walk.specs.Places.{place_number}
 use Rattle.chan_walk.specs.Look.{Seen, argument_seen}
 use Rattle.chan_walk.specs.Reason.{number_of}
 
 -- the map has for each key the least index of a look that has it, and nothing where none has it
 abbrev pub IsIndex : (ℕ → ℕ → Type 0) → BTreeMap ℕ ℕ → Type 0
 IsIndex HasKey m = (key : ℕ) → IsLeastOrNone (HasKey key) (tree.get nat_cmp m key)
-
--- among the first n looks, the one of this index is at the place of this number
-abbrev pub IsAtPlace : List Seen → ℕ → ℕ → ℕ → Type 0
-IsAtPlace ls n key at =
-    (at < n) × ((l : Seen) × (slice_get ls at ≡ Some l) × (key ≡ place_number l.place))
 
 -- among the first n looks, the one of this index takes the byte at this address as its argument
 abbrev pub TakesByte : List Seen → ℕ → ℕ → ℕ → Type 0

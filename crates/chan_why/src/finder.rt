@@ -5,7 +5,7 @@ ghost use Rattle.std.specs.BTreeMap as tree;
 ghost use Rattle.std.specs.Ordering.{nat_cmp};
 ghost use Rattle.chan_walk.specs.Argument.{Has};
 ghost use Rattle.chan_walk.specs.Places.{AreDistinct};
-ghost use Rattle.chan_why.specs.Finder.{FindsFirst, IsAtPlace, IsIndex, IsLesserOf, IsOfKind};
+ghost use Rattle.chan_why.specs.Finder.{FindsFirst, IsIndex, IsLesserOf, IsOfKind};
 ghost use Rattle.chan_why.specs.Finder.{KeepsLeast, TakesByte};
 ghost use Rattle.chan_why.specs.Finder as index;
 ghost use Rattle.chan_walk.specs.JobSurvey.{IsSurvey};
@@ -35,7 +35,7 @@ impl Finder {
     {
         Ok(Finder {
             takers: takers_of(alloc, survey.looks())?,
-            offenders: offenders_of(alloc, survey.looks(), survey.offences())?,
+            offenders: offenders_of(alloc, survey, survey.offences())?,
         })
     }
 
@@ -80,17 +80,6 @@ fn keep_first(first: &mut BTreeMap<u64, usize>, key: u64, at: usize) -> Result<(
     Ok(())
 }
 
-/// The index of the look at each place.
-fn index_by_place(alloc: Global, looks: &[Look]) -> Result<BTreeMap<u64, usize>, AllocError>
-    ensures { IfOk result (IsIndex (IsAtPlace looks.now (length looks.now))) }
-{
-    let mut first = BTreeMap::new(alloc);
-    for at in 0..looks.len() {
-        keep_first(&mut first, looks[at].place().number(), at)?;
-    }
-    Ok(first)
-}
-
 /// Notes the bytes that the look of an index takes as its argument.
 fn note_bytes(first: &mut BTreeMap<u64, usize>, looks: &[Look], at: usize) -> Result<(), AllocError>
     requires within { at < length looks.now }
@@ -117,19 +106,19 @@ fn takers_of(alloc: Global, looks: &[Look]) -> Result<BTreeMap<u64, usize>, Allo
 /// For each address and reason the index of the first place that so offends.
 fn offenders_of(
     alloc: Global,
-    looks: &[Look],
+    survey: &Survey,
     offences: &[Offence],
 ) -> Result<BTreeMap<u64, usize>, AllocError>
-    requires distinct { AreDistinct (places_of_looks looks.now) }
+    requires distinct { AreDistinct (places_of_looks survey.now.looks) }
     requires seen { (o : declared.Offence) → Has offences.now o
-        → Has (places_of_looks looks.now) o.place }
-    ensures { IfOk result (IsIndex (IsOfKind looks.now offences.now (length offences.now))) }
+        → Has (places_of_looks survey.now.looks) o.place }
+    ensures { IfOk result (IsIndex (IsOfKind survey.now.looks offences.now
+        (length offences.now))) }
 {
-    let places = index_by_place(alloc, looks)?;
     let mut first = BTreeMap::new(alloc);
     for offence in offences {
         // The place of each offence was looked at.
-        let at = places.get(&offence.place.number()).copied().unwrap();
+        let at = survey.index_of(offence.place).unwrap();
         keep_first(&mut first, kind_number(*offence), at)?;
     }
     Ok(first)

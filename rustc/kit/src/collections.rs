@@ -64,6 +64,10 @@ impl<K: Ord, V> BTreeMap<K, V> {
 }
 
 impl<K, V> BTreeMap<K, V> {
+    pub fn len(&self) -> usize {
+        self.leaves.iter().map(|leaf| leaf.len()).sum()
+    }
+
     pub fn iter(&self) -> Iter<'_, K, V> {
         Iter(self.leaves.iter().flatten())
     }

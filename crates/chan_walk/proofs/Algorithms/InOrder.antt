@@ -1,5 +1,6 @@
 -- The marked places, written out in order.
-use Rattle.chan_walk.proofs.Names.{[], AllByRecursion, ap, append_assoc, AreDistinct, arith, bit_at, Bool, BTreeMap, cases_lt, common_steps, eq-eqb, eqb, eqb-true, false, Has, HasWay, inl, inr, IsStrictlySortedBy, IsWalked, Job, length, length-map, Less, List, ListsMarks, map, marks_of, marks_or_none, MarksAgree, nat_cmp, nat_tests, None, Option, or_cases, or_left, or_right, Place, place_at, place_number, places_of, refl, rules, Some, subst, suc, sym, true, way_of, ways, zero, ℕ, ◌*◌, ◌++◌, ◌+◌, ◌-◌, ◌<◌, ◌==◌, ◌↔◌, ◌∙◌, ◌∷◌, ◌≡◌, ◌≤◌, ◌⊎◌}
+use Rattle.chan_walk.proofs.Names.{[], AllByRecursion, ap, append_assoc, AreDistinct, arith, bit_at, Bool, BTreeMap, cases_lt, common_steps, eq-eqb, eqb, eqb-true, false, Has, HasWay, if◌then◌else◌, inl, inr, IsStrictlySortedBy, IsWalked, Job, length, length-map, Less, List, ListsMarks, map, marks_of, marks_or_none, MarksAgree, nat_cmp, nat_tests, None, Option, or_cases, or_left, or_right, Place, place_at, place_number, places_of, refl, rules, Some, subst, suc, sym, true, way_of, ways, zero, ℕ, ◌*◌, ◌++◌, ◌+◌, ◌-◌, ◌<◌, ◌==◌, ◌↔◌, ◌∙◌, ◌∷◌, ◌≡◌, ◌≤◌, ◌⊎◌}
+use Rattle.std.proofs.Common.{nat_lt}
 use Rattle.std.specs.List.{IsDistinct, list_any}
 use Rattle.std.specs.Map.{keys_of}
 use Rattle.std.proofs.lemmas.Bool.{ne_eqb}
@@ -58,6 +59,71 @@ apart_sorted : (ps : List Place) → AreSorted ps → AreDistinct ps
 unfolding IsStrictlySortedBy
 apart_sorted [] s = tt
 apart_sorted (p ∷ ps) s = ((λ h. let l = above_all (place_number p) ps s.0 p h in absurd (omega arith)), apart_sorted ps s.1)
+
+-- ---- distinct places put in order
+
+abbrev put_in : Place → List Place → List Place
+put_in p [] = p ∷ []
+put_in p (q ∷ qs) = if nat_lt (place_number p) (place_number q) then p ∷ q ∷ qs else q ∷ put_in p qs
+
+abbrev pub in_order : List Place → List Place
+in_order [] = []
+in_order (p ∷ ps) = put_in p (in_order ps)
+
+one_longer : (p : Place) (qs : List Place) → length (put_in p qs) ≡ suc (length qs)
+one_longer p [] = refl
+one_longer p (q ∷ qs) = go (nat_lt (place_number p) (place_number q)) (one_longer p qs)
+  where
+    go : (b : Bool) → length (put_in p qs) ≡ suc (length qs) → length (if b then p ∷ q ∷ qs else q ∷ put_in p qs) ≡ suc (suc (length qs))
+    go true rest = refl
+    go false rest = ap suc rest
+
+pub as_many : (ps : List Place) → length (in_order ps) ≡ length ps
+as_many [] = refl
+as_many (p ∷ ps) = one_longer p (in_order ps) ∙ ap suc (as_many ps)
+
+has_put : (p : Place) (qs : List Place) (r : Place) → Has (put_in p qs) r ↔ Has (p ∷ qs) r
+has_put p [] r = (λ h. h, λ h. h)
+has_put p (q ∷ qs) r = go (nat_lt (place_number p) (place_number q)) (has_put p qs r)
+  where
+    go : (b : Bool) → Has (put_in p qs) r ↔ Has (p ∷ qs) r → Has (if b then p ∷ q ∷ qs else q ∷ put_in p qs) r ↔ Has (p ∷ q ∷ qs) r
+    go true rest = (λ h. h, λ h. h)
+    go false rest = search (rules, rest)
+
+pub same_places : (ps : List Place) (r : Place) → Has (in_order ps) r ↔ Has ps r
+same_places [] r = (λ h. h, λ h. h)
+same_places (p ∷ ps) r = search (rules, has_put p (in_order ps) r, same_places ps r)
+
+sorted_put : (p : Place) (qs : List Place) → AreSorted qs → (Has qs p → ⊥) → AreSorted (put_in p qs)
+unfolding IsStrictlySortedBy
+sorted_put p [] s new = (tt, tt)
+sorted_put p (q ∷ qs) s new = go (nat_lt (place_number p) (place_number q)) refl (sorted_put p qs s.1 (λ h. new (inr h)))
+  where
+    go : (b : Bool) → nat_lt (place_number p) (place_number q) ≡ b → AreSorted (put_in p qs) → AreSorted (if b then p ∷ q ∷ qs else q ∷ put_in p qs)
+    go true e rest = (all_above (place_number p) (q ∷ qs) (λ r h. above r h), s)
+      where
+        low : place_number p < place_number q
+        low = grind (arith, nat_tests)
+
+        above : (r : Place) → Has (q ∷ qs) r → place_number p < place_number r
+        above r (inl d) = subst (λ z. place_number p < place_number z) d low
+        above r (inr h) = omega (arith, low, above_all (place_number q) qs s.0 r h)
+    go false e rest = (all_above (place_number q) (put_in p qs) (λ r h. above r ((has_put p qs r).0 h)), rest)
+      where
+        low : place_number q < place_number p
+        low =
+            let le : place_number q ≤ place_number p = grind (arith, nat_tests) in
+            let apart : place_number q ≡ place_number p → ⊥ = λ d. new (inl (same_number q p d)) in
+            grind (arith, nat_tests)
+
+        above : (r : Place) → Has (p ∷ qs) r → place_number q < place_number r
+        above r (inl d) = subst (λ z. place_number q < place_number z) d low
+        above r (inr h) = above_all (place_number q) qs s.0 r h
+
+pub ordered : (ps : List Place) → AreDistinct ps → AreSorted (in_order ps)
+unfolding IsStrictlySortedBy
+ordered [] d = tt
+ordered (p ∷ ps) d = sorted_put p (in_order ps) (ordered ps d.1) (λ h. d.0 ((same_places ps p).0 h))
 
 -- ---- the places at one address
 

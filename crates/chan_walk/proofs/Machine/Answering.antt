@@ -1,8 +1,9 @@
 -- What the laws say of a job's verdict.
-use Rattle.chan_walk.proofs.Names.{BTreeMap, HasFound, HasMask, IsProper, IsVerdict, Job, List, ListsMarks, MarksAgree, nat_cmp, No, NoFalseAlarm, NoIsHarm, places_of, places_of_looks, refl, Seen, subst, Verdict, Yes, YesIsSafe, YesIsSafeAmong, ℕ, ◌≡◌}
+use Rattle.chan_walk.proofs.Names.{arith, HasFound, map, place_number, HasMask, IsProper, IsVerdict, Job, List, No, NoFalseAlarm, NoIsHarm, places_of_looks, refl, Seen, subst, Verdict, Yes, YesIsSafe, YesIsSafeAmong, ℕ, ◌≡◌}
 use Rattle.chan_walk.specs.Answers.{HasAtMost, HasWitness, IsSound, IsSoundAmong}
-use Rattle.chan_walk.proofs.Algorithms.InOrder.{listed_few, listed_reachable}
-use Rattle.std.specs.BTreeMap as tree
+use Rattle.std.proofs.lemmas.Map.Keys.{IsStrictlyIncreasing-from_sorted}
+use Rattle.chan_walk.proofs.Algorithms.InOrder.{as_many, in_order, ordered, same_places}
+use Rattle.chan_walk.proofs.Algorithms.Walking.{all_found}
 
 pub covers : (j : Job) (v : Verdict) → HasMask j → YesIsSafe → IsVerdict j v → IsSound j v
 covers j v mask law h e = law j mask (subst (λ (w : Verdict). IsVerdict j w) e h)
@@ -20,12 +21,15 @@ only_yes j Yes h y = refl
 only_yes j (No a r) h y = absurd (y h.0.place r h.0.reached h.0.offends)
 
 -- a walk finds no more places than the job's limit
-pub at_most : (j : Job) (m : BTreeMap ℕ ℕ) (ls : List Seen) (fs : List ℕ)
-    → tree.IsOrdered nat_cmp m → MarksAgree m (places_of_looks ls) → HasFound j ls fs → HasAtMost j j.limit
-at_most j m ls fs o agrees f =
-    let l : ListsMarks m (places_of m.entries) = record { ordered = o; listed = refl } in
+pub at_most : (j : Job) (ls : List Seen) (fs : List ℕ) → HasFound j ls fs → HasAtMost j j.limit
+at_most j ls fs f =
+    let ps = places_of_looks ls in
     record {
-      places = places_of m.entries;
-      are = listed_reachable j j.limit m (places_of_looks ls) (places_of m.entries) f.at l agrees f.walked f.all;
-      few = listed_few j j.limit m (places_of_looks ls) (places_of m.entries) f.at l agrees f.walked;
+      places = in_order ps;
+      are = record {
+        ordered = IsStrictlyIncreasing-from_sorted (map place_number (in_order ps)) (ordered ps f.walked.distinct);
+        each = λ p r. (same_places ps p).1 (all_found j j.limit ps f.at f.walked f.all p r);
+        only = λ p h. f.walked.only p ((same_places ps p).0 h);
+      };
+      few = omega (arith, as_many ps, f.walked.few);
     }

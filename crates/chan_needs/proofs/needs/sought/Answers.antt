@@ -1,5 +1,4 @@
-use Rattle.chan_needs.proofs.Names.{Area, arith, HoldBytes, List, look_of, Place, places_next, places_of_looks, places_taken, rules, SeeksCylinder, subst, sym, take, ◌+◌, ◌^◌}
-use Rattle.std.proofs.lemmas.Result.{IfOk-weaker}
+use Rattle.chan_needs.proofs.Names.{arith, HoldBytes, List, look_of, Place, places_next, places_of_looks, places_taken, rules, SeeksCylinder, subst, sym, take, ◌+◌, ◌^◌}
 use Rattle.chan_needs.proofs.Demanding.{clear_at}
 use Rattle.chan_walk.proofs.Algorithms.Guarding.{hold_more, hold_none, hold_same, low_none}
 use Rattle.chan_areas.proofs.Merging.{exactly_low}
@@ -29,17 +28,14 @@ pub new-requires : goal.new-requires
 new-requires c k d l = let e = c.loop-look.invariant.low k d l in omega arith
 
 pub returns-clause-low : goal.returns-clause-low
-returns-clause-low c =
-    IfOk-weaker c.new.result _ _ (λ (m : List Area) h. exactly_low (2 ^ 16 + 1) c.loop-look.cylinders.items m h c.loop-look.invariant.low) c.new.ensures
+returns-clause-low c = exactly_low (2 ^ 16 + 1) c.loop-look.cylinders.items c.new.result c.new.ensures c.loop-look.invariant.low
 
 pub returns-clause-cylinders : goal.returns-clause-cylinders
-returns-clause-cylinders c =
+returns-clause-cylinders c j are =
     let ls = c.args.looks.now in
-    IfOk-weaker c.new.result _ _
-    (λ (m : List Area) h j are. record {
-      merged = h.merged;
-      bytes = sought_all j (places_of_looks ls) m are.reached
-          (hold_same (SeeksCylinder j) _ (places_of_looks ls) c.loop-look.cylinders.items m
-          (places_taken ls c.loop-look.look-index (omega arith)) (c.loop-look.invariant.bytes j are) h);
-    })
-    c.new.ensures
+    record {
+      merged = c.new.ensures.merged;
+      bytes = sought_all j (places_of_looks ls) c.new.result are.reached
+          (hold_same (SeeksCylinder j) _ (places_of_looks ls) c.loop-look.cylinders.items c.new.result
+          (places_taken ls c.loop-look.look-index (omega arith)) (c.loop-look.invariant.bytes j are) c.new.ensures);
+    }

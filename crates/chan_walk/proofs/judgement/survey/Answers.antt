@@ -38,6 +38,5 @@ returns-clause-answer c =
       exact = (covers j v s.proper.2 c.yes_is_safe.ensures is, λ h. only_yes j v is (c.safe_is_yes.ensures j s.proper h.0 h.1));
       among = covers_among j v s.proper.2 c.yes_is_safe_among.ensures is;
       witness = shown j v s.proper c.no_false_alarm.ensures c.no_is_harm.ensures is;
-      few = at_most j c.in_ok-walk.walk.marks c.in_ok-walk.walk.looks.items c.in_ok-walk.walk.found_from.items
-          c.iter-marks.ensures.ordered c.in_ok-walk.ensures.agrees c.in_ok-walk.ensures.found;
+      few = at_most j c.in_ok-walk.walk.looks.items c.in_ok-walk.walk.found_from.items c.in_ok-walk.ensures.found;
     }

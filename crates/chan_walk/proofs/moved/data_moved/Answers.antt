@@ -1,4 +1,4 @@
-use Rattle.chan_walk.proofs.Names.{ap, Area, arith, IfOk-weaker, is_direction, length, List, moves_by, Place, places_of_looks, rules, subst, sym, take, ◌<◌, ◌∙◌}
+use Rattle.chan_walk.proofs.Names.{ap, arith, is_direction, length, List, moves_by, Place, places_of_looks, rules, subst, sym, take, ◌<◌, ◌∙◌}
 use Rattle.chan_walk.proofs.Theory.Found.{moves_so}
 use Rattle.chan_walk.proofs.Algorithms.Guarding.{HoldBytes, hold_more, hold_none, hold_same, low_none}
 use Rattle.chan_walk.proofs.Algorithms.Looking.{look_of, places_next, places_taken}
@@ -30,11 +30,10 @@ pub returns : goal.returns
 returns c =
     let test = moves_by c.args.direction in
     let ls = c.args.looks.now in
-    IfOk-weaker c.new.result _ _
-    (λ (m : List Area) h j are reached. record {
-      merged = h.merged;
-      bytes = all_data test j (places_of_looks ls) m reached
-          (hold_same (HasData test j) _ (places_of_looks ls) c.loop-look.ranges.items m
-          (places_taken ls c.loop-look.look-index (omega arith)) (c.loop-look.invariant.bytes j are) h);
-    })
-    c.new.ensures
+    let is = c.new.ensures in
+    λ j are reached. record {
+      merged = is.merged;
+      bytes = all_data test j (places_of_looks ls) c.new.result reached
+          (hold_same (HasData test j) _ (places_of_looks ls) c.loop-look.ranges.items c.new.result
+          (places_taken ls c.loop-look.look-index (omega arith)) (c.loop-look.invariant.bytes j are) is);
+    }

@@ -1,4 +1,4 @@
-use Rattle.chan_walk.proofs.Names.{All, All-append, ap, Area, EndsBelow, IfOk-weaker, List, rules, subst, sym, ◌++◌, ◌^◌, ◌∙◌, ◌≡◌}
+use Rattle.chan_walk.proofs.Names.{All, All-append, ap, Area, EndsBelow, List, rules, subst, sym, ◌++◌, ◌^◌, ◌∙◌, ◌≡◌}
 use Rattle.chan_areas.proofs.Merging.{merged_both}
 use Rattle.chan_walk.proofs.moved.guarded_areas.Goals as goal
 
@@ -15,4 +15,4 @@ new-requires c =
 pub returns : goal.returns
 returns c =
     let g = c.args.guard.now in
-    IfOk-weaker c.new.result _ _ (λ (m : List Area) h j guards. merged_both g.ccws g.arguments _ m (search rules) h guards.ccws guards.arguments) c.new.ensures
+    λ j guards. merged_both g.ccws g.arguments _ c.new.result (search rules) c.new.ensures guards.ccws guards.arguments

@@ -34,7 +34,7 @@ loop-at-init c =
     let places = one.places ∙ ap (λ (p : Place). p ∷ []) c.first_place.ensures in
     record {
       looks = c.in_ok-add.ensures.looks;
-      agrees = c.in_ok-add.ensures.agrees;
+      finds = c.in_ok-add.ensures.finds;
       walked = subst (λ z. IsWalked j j.limit z 0) (sym places) (walked_first j j.limit one.room);
       traced = subst (λ z. IsTraced j z c.add.new.self.found_from.items 0 0) (sym places)
           (subst (λ z. IsTraced j (first_place j ∷ []) z 0 0) (sym one.from) (traced_first j));
@@ -43,7 +43,7 @@ loop-at-init c =
 pub loop-at-preserved : goal.loop-at-preserved
 loop-at-preserved c = record {
   looks = c.in_ok-add_successors.ensures.looks;
-  agrees = c.in_ok-add_successors.ensures.agrees;
+  finds = c.in_ok-add_successors.ensures.finds;
   walked = c.in_ok-add_successors.ensures.ok;
   traced = c.in_ok-add_successors.ensures.traced;
 }

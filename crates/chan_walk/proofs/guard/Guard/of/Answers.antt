@@ -45,10 +45,10 @@ returns c j are reached =
     let ls = c.args.looks.now in
     let all : places_of_looks (take c.loop-look.look-index ls) ≡ places_of_looks ls = places_taken ls c.loop-look.look-index (omega arith) in
     record {
-      ccws_merged = c.in_ok-ccws.ensures.merged;
-      ccws = ccw_bytes j (places_of_looks ls) c.in_ok-ccws.ccws reached
-          (hold_same (IsCcwByteOf j) _ _ c.loop-look.ccws.items c.in_ok-ccws.ccws all (c.loop-look.invariant.ccws j are) c.in_ok-ccws.ensures);
-      arguments_merged = c.in_ok-arguments.ensures.merged;
-      arguments = argument_bytes j (places_of_looks ls) c.in_ok-arguments.arguments reached (hold_same (IsArgumentByteOf j) _ _ c.loop-look.arguments.items
-          c.in_ok-arguments.arguments all (c.loop-look.invariant.arguments j are) c.in_ok-arguments.ensures);
+      ccws_merged = c.new-ccws-2.ensures.merged;
+      ccws = ccw_bytes j (places_of_looks ls) c.new-ccws-2.result reached
+          (hold_same (IsCcwByteOf j) _ _ c.loop-look.ccws.items c.new-ccws-2.result all (c.loop-look.invariant.ccws j are) c.new-ccws-2.ensures);
+      arguments_merged = c.new-arguments-2.ensures.merged;
+      arguments = argument_bytes j (places_of_looks ls) c.new-arguments-2.result reached (hold_same (IsArgumentByteOf j) _ _ c.loop-look.arguments.items
+          c.new-arguments-2.result all (c.loop-look.invariant.arguments j are) c.new-arguments-2.ensures);
     }

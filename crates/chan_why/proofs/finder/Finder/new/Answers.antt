@@ -1,4 +1,4 @@
-use Rattle.chan_why.proofs.Names.{AreDistinct, Has, List, Offence, places_of_looks, Seen, subst, sym}
+use Rattle.chan_why.proofs.Names.{Has, List, Offence, subst}
 use Rattle.chan_walk.proofs.Algorithms.Walking.{reached_all}
 use Rattle.chan_why.proofs.finder.Finder.new.Goals as goal
 
@@ -7,9 +7,7 @@ offenders_of-requires-clause-seen c o listed =
     let j = c.requires.0 in
     let s = c.requires.1 in
     let of_job = subst (λ (os : List Offence). Has os o) c.offences.ensures listed in
-    subst (λ (ls : List Seen). Has (places_of_looks ls) o.place) (sym c.looks-2.ensures)
-    ((reached_all j c.args.survey.now.looks c.args.survey.now.found_from s.found).0 o.place (s.offences.only o of_job).0)
+    (reached_all j c.args.survey.now.looks c.args.survey.now.found_from s.found).0 o.place (s.offences.only o of_job).0
 
 pub offenders_of-requires-clause-distinct : goal.offenders_of-requires-clause-distinct
-offenders_of-requires-clause-distinct c =
-    subst (λ (ls : List Seen). AreDistinct (places_of_looks ls)) (sym c.looks-2.ensures) c.requires.1.found.walked.distinct
+offenders_of-requires-clause-distinct c = c.requires.1.found.walked.distinct

@@ -1,0 +1,64 @@
+//! Where each place of a walk is found by its address.
+
+ghost use Rattle.std.specs.Prelude.{◌≡◌, ◌<◌, ◌^◌, ◌++◌, ◌∷◌, List, [], length, OnOk};
+ghost use Rattle.chan_walk.specs.Look.{places_of_looks};
+ghost use Rattle.chan_walk.specs.PlaceTable.{FindsPlaces, IsIndexOf};
+ghost use Rattle.chan_walk.specs.declared.place.Place as places;
+
+use crate::address_table::AddressTable;
+use crate::look::Look;
+use crate::place::Place;
+use std::alloc::{AllocError, Global};
+
+/// The places of a walk in the order in which they were found: which was the last one at an
+/// address, and which one was before it there.
+#[derive(Drop)]
+pub(crate) struct PlaceTable {
+    /// For each address one more than the index of the last place there; 0 if there is none.
+    last: AddressTable,
+    /// For each place one more than the index of the place before it at its address; 0 if there is
+    /// none.
+    before: Vec<u32>,
+}
+
+impl PlaceTable {
+    /// The table of no places.
+    pub(crate) fn new(alloc: Global) -> PlaceTable
+        ensures { FindsPlaces result [] }
+    {
+        PlaceTable {
+            last: AddressTable::new(alloc),
+            before: Vec::new(alloc),
+        }
+    }
+
+    /// The index of a place, if it is one of those looked at. It costs a step for each place with
+    /// its address, of which there are at most eight.
+    pub(crate) fn index_of(&self, looks: &[Look], place: Place) -> Option<usize>
+        requires { FindsPlaces self.now (places_of_looks looks.now) }
+        ensures { IsIndexOf (places_of_looks looks.now) place result }
+    {
+        let mut end = self.last.get(place.address) as usize;
+        while end > 0 {
+            let index = end - 1;
+            if looks[index].place().number() == place.number() {
+                return Some(index);
+            }
+            end = self.before[index] as usize;
+        }
+        None
+    }
+
+    /// Adds a place after the others.
+    pub(crate) fn push(&mut self, place: Place) -> Result<(), AllocError>
+        requires places { (ps : List places.Place) × FindsPlaces self.old ps }
+        requires few { length self.old.before.items < 2 ^ 31 }
+        ensures { OnOk result ((ps : List places.Place) → FindsPlaces self.old ps
+            → FindsPlaces self.new (ps ++ place ∷ [])) }
+    {
+        let before = self.last.get(place.address);
+        self.before.push(before)?;
+        self.last.set(place.address, self.before.len() as u32)?;
+        Ok(())
+    }
+}
