@@ -1,9 +1,10 @@
-"""Three decks of bench/, each judged in far more time than it takes, but not with worse growth.
+"""Three decks and an image of bench/, each with more time than it takes, but not for worse growth.
 
 Each is as large as the limits admit in one respect: 65,536 places with a seek argument for every
 second one, a half million areas in the worst order, and as many offences with the longest path. The
 bounds are seconds of a processor, some ten times as many as one of 2020 needs. An algorithm that
-compares each with each needs more than that.
+compares each with each needs more than that. In the image, a million programs lead into one chain:
+to judge them all takes half an hour, so after so many places `find` says that it doesn't.
 
 A start with 4,096 rows in order, and one with 64 KiB of kept bytes, are bounded in instructions,
 some three times as many as `chanv_check_start` takes: the product of the rows, and a comparison of
@@ -21,7 +22,7 @@ from importlib import util
 from pathlib import Path
 
 from building import HERE, ROOT, compile_with
-from running import run
+from running import run, text_of
 
 # the deck, the command, the seconds, and the status
 BOUNDS = [
@@ -39,24 +40,32 @@ INSTRUCTIONS = [
 # the deck whose picture is drawn, and how many instructions that may take
 PICTURE = "comb-65536", 2_000_000_000
 
-# the processor time after which the system ends a run
+# the processor time after which the system ends a run, and the most for `find`
 LAST_SECOND = 20
+
+# how many places `find` judges in an image, as docs/OUTPUT.md says
+PLACES_JUDGED = 16_777_216
+
+
+def of_bench(name):
+    """A module of bench/; modules of the tests have the same names."""
+    found = util.spec_from_file_location(f"bench_{name}", ROOT / f"bench/{name}.py")
+    module = util.module_from_spec(found)
+    found.loader.exec_module(module)
+    return module
 
 
 def decks_of_bench():
-    """The decks of bench/decks.py, by name; a module of the tests has its name."""
-    found = util.spec_from_file_location("bench_decks", ROOT / "bench/decks.py")
-    module = util.module_from_spec(found)
-    found.loader.exec_module(module)
-    return module.DECKS
+    """The decks of bench/decks.py, by name."""
+    return of_bench("decks").DECKS
 
 
-def timed(program, command, deck):
+def timed(program, command, path, output=subprocess.DEVNULL):
     """The status, and the seconds of a processor."""
     words = ["bash", "-c", 'ulimit -t "$1"; shift; exec "$@"', "bash", str(LAST_SECOND)]
-    with deck.open("rb") as given:
-        how = {"stdin": given, "stdout": subprocess.DEVNULL, "stderr": subprocess.DEVNULL}
-        with subprocess.Popen([*words, program, command], **how) as child:
+    with path.open("rb") as given:
+        how = {"stdin": given, "stdout": output, "stderr": subprocess.DEVNULL}
+        with subprocess.Popen([*words, program, *command.split()], **how) as child:
             _, status, used = os.wait4(child.pid, 0)
             child.returncode = os.waitstatus_to_exitcode(status)
     return child.returncode, used.ru_utime + used.ru_stime
@@ -85,10 +94,28 @@ def check_instructions(checks, built, decks, room):
     check_count(checks, f"graph {name}", most, built.chanv(), "graph", given=deck)
 
 
+def check_find(checks, program, room):
+    """All programs of the image have a line, and those up to the last place that counts a verdict."""
+    bench, image, lines = of_bench("find"), room / "image", room / "lines"
+    image.write_bytes(bench.entries())
+    with lines.open("wb") as output:
+        status, seconds = timed(program, "find --device 2314", image, output)
+    checks.expect("find, entries into one chain", 0, status)
+    checks.expect_that(f"find, at most {LAST_SECOND} s", seconds <= LAST_SECOND, f"{seconds:.2f} s")
+    starts = range(8 * bench.CHAIN, bench.SIZE, 16)
+    # two CCWs, and the chain
+    judged = -(-PLACES_JUDGED // (2 + bench.CHAIN))
+    verdict = f"yes {2 + bench.CHAIN} CCWs: {', '.join(['no-operation'] * 4)}"
+    said = [verdict if at < judged else "not judged" for at in range(len(starts))]
+    wanted = [f"{start:06X} {line}" for start, line in zip(starts, said, strict=True)]
+    checks.expect_that("find, each line", wanted == text_of(lines).splitlines(), len(wanted))
+
+
 def check(checks, built):
     program, decks = built.chanv(), decks_of_bench()
     with tempfile.TemporaryDirectory() as room:
         check_instructions(checks, built, decks, Path(room))
+        check_find(checks, program, Path(room))
     with tempfile.TemporaryDirectory() as room:
         for name, command, most, wanted in BOUNDS:
             deck = Path(room) / f"{name}.deck"

@@ -124,6 +124,7 @@ const OF_FIND: &str = "The output has a line for each program, in order of its s
   SSSSSS yes                some job will do; chanv deck --least makes a deck
   SSSSSS no ADDRESS REASON  no job will do
   SSSSSS too many places    more places are reachable than --limit
+  SSSSSS not judged         the programs before it have too many places in all
 Behind yes and no come the number of CCWs and the names of the first commands.
 
 A program starts at a CCW without a fault that leads to a second CCW, unless

@@ -44,24 +44,30 @@ fn has_second_from(job: &Job, start: u32, place: Option<Place>) -> bool {
     is_second_at(job, start, look.next().next)
 }
 
+/// For each code whether a command has it. The table answers at once.
+fn command_codes() -> [bool; 256] {
+    let mut codes = [false; 256];
+    for code in 0..256 {
+        codes[code] = lookup(code as u8).is_some();
+    }
+    codes
+}
+
 /// Whether the CCW at an address, by two of its bytes alone, may be a plain start: its code is the
 /// code of a command and its byte 5 is zero. Most data fails here, before a look.
-fn may_be_plain(job: &Job, start: u32) -> bool
+fn may_be_plain(codes: &[bool; 256], job: &Job, start: u32) -> bool
     ensures { IsTrue result → Stands (storage_of job.now) start }
 {
-    match job.storage.ccw_at(start) {
-        Some(ccw) => ccw.spare() == 0 && lookup(ccw.command()).is_some(),
-        None => false,
+    match job.storage.range(start, 8) {
+        Some([code, _, _, _, _, 0, _, _]) => {
+            codes[usize::from(*code)] && job.storage.ccw_at(start).is_some()
+        }
+        _ => false,
     }
 }
 
 /// Whether a start is likely: it is plain, and there is a second CCW one or two successors on.
-fn is_likely(job: &Job, start: u32) -> bool
-    ensures { IsTrue result → Stands (storage_of job.now) start }
-{
-    if !may_be_plain(job, start) {
-        return false;
-    }
+fn is_likely(job: &Job, start: u32) -> bool {
     let look = look_at(job, start_at(start));
     if !is_plain(&look) {
         return false;
@@ -74,13 +80,14 @@ fn is_likely(job: &Job, start: u32) -> bool
 /// it leads to.
 fn offer(
     covered: &mut Covered,
+    codes: &[bool; 256],
     job: &Job,
     start: u32,
     taken: &mut Vec<u32>,
 ) -> Result<(), AllocError>
     ensures { OnOk result (IsOffered (storage_of job.now) start taken.old.items taken.new.items) }
 {
-    if covered.has(start_at(start)) || !is_likely(job, start) {
+    if !may_be_plain(codes, job, start) || covered.has(start_at(start)) || !is_likely(job, start) {
         return Ok(());
     }
     covered.cover(job, start)?;
@@ -89,14 +96,14 @@ fn offer(
 }
 
 /// The likely starts to which no lower likely start leads, in order.
-fn roots(alloc: Global, job: &Job) -> Result<Vec<u32>, AllocError>
+fn roots(alloc: Global, codes: &[bool; 256], job: &Job) -> Result<Vec<u32>, AllocError>
     ensures { IfOk result (λ v. AreStarts (storage_of job.now) v.items) }
 {
     let mut covered = Covered::new(alloc, job)?;
     let mut roots = Vec::new(alloc);
     let mut address = 0;
     while address < job.storage.len() {
-        offer(&mut covered, job, address, &mut roots)?;
+        offer(&mut covered, codes, job, address, &mut roots)?;
         address += 8;
     }
     Ok(roots)
@@ -104,7 +111,12 @@ fn roots(alloc: Global, job: &Job) -> Result<Vec<u32>, AllocError>
 
 /// The starts of a list to which no higher start of the list leads, in order; it goes through them
 /// from the highest down.
-fn highest_apart(alloc: Global, job: &Job, roots: Vec<u32>) -> Result<Vec<u32>, AllocError>
+fn highest_apart(
+    alloc: Global,
+    codes: &[bool; 256],
+    job: &Job,
+    roots: Vec<u32>,
+) -> Result<Vec<u32>, AllocError>
     requires { AreStarts (storage_of job.now) roots.items }
     ensures { IfOk result (λ v. AreStarts (storage_of job.now) v.items) }
 {
@@ -112,7 +124,7 @@ fn highest_apart(alloc: Global, job: &Job, roots: Vec<u32>) -> Result<Vec<u32>, 
     let mut covered = Covered::new(alloc, job)?;
     let mut kept = Vec::new(alloc);
     while let Some(start) = rest.pop() {
-        offer(&mut covered, job, start, &mut kept)?;
+        offer(&mut covered, codes, job, start, &mut kept)?;
     }
     kept.reverse();
     Ok(kept)
@@ -122,8 +134,9 @@ fn highest_apart(alloc: Global, job: &Job, roots: Vec<u32>) -> Result<Vec<u32>, 
 fn starts_of(alloc: Global, job: &Job) -> Result<Vec<u32>, AllocError>
     ensures { IfOk result (λ v. AreStarts (storage_of job.now) v.items) }
 {
-    let roots = roots(alloc, job)?;
-    highest_apart(alloc, job, roots)
+    let codes = command_codes();
+    let roots = roots(alloc, &codes, job)?;
+    highest_apart(alloc, &codes, job, roots)
 }
 
 /// The starts of programs in storage, each once, in order. The call judges CCWs under the device's

@@ -1,22 +1,23 @@
 -- The lines of programs that are found, one after another.
-use Rattle.std.proofs.Common.{◌≡◌, ◌∙◌, ◌<◌, ◌++◌, ◌∷◌, [], List, ap, arith, append_assoc, append-nil, length, refl, slice_index_or, suc, sym, take, zero, ℕ}
+use Rattle.std.proofs.Common.{◌≡◌, ◌∙◌, ◌<◌, ◌++◌, ◌∷◌, [], List, ap, arith, append_assoc, append-nil, length, refl, slice_index_or, subst, suc, sym, take, zero, ℕ}
 use Rattle.chan_deck.specs.PartsImage.{storage_with}
 use Rattle.chan_find.specs.Programs.{AreStarts}
-use Rattle.chan_run.specs.Find.{AreLines, AreStartsInImage}
+use Rattle.chan_run.specs.Find.{AreLinesAt, AreStartsInImage, IsLineAt}
 use Rattle.chan_run.specs.declared.image_options.ImageOptions.{ImageOptions}
 
 -- a line more
-pub lines_more : {X : Type 0} (IsLine : X → List ℕ → Type 0) (xs : List X) (i : ℕ) (d : X) (text line : List ℕ)
-    → i < length xs → AreLines IsLine (take i xs) text → IsLine (slice_index_or xs i d) line
-    → AreLines IsLine (take (suc i) xs) (text ++ line)
-lines_more IsLine [] i d text line lt before is = absurd (omega (arith, lt))
-lines_more IsLine (x ∷ xs) zero d text line lt before is =
-    (line, [], is, refl, rw before (sym (append-nil line)))
-lines_more IsLine (x ∷ xs) (suc i) d text line lt (first, rest, at, are, joins) is = (
+pub lines_more : (o : ImageOptions) (image xs : List ℕ) (i d left before after : ℕ) (text line : List ℕ)
+    → i < length xs → AreLinesAt o image left (take i xs) text before → IsLineAt o image (slice_index_or xs i d) before line after
+    → AreLinesAt o image left (take (suc i) xs) (text ++ line) after
+lines_more o image [] i d left before after text line lt lines at = absurd (omega (arith, lt))
+lines_more o image (x ∷ xs) zero d left before after text line lt (none, same) at =
+    (line, [], after, subst (λ n. IsLineAt o image x n line after) same at, (refl, refl), rw none (sym (append-nil line)))
+lines_more o image (x ∷ xs) (suc i) d left before after text line lt (first, rest, between, is, are, joins) at = (
   first,
   rest ++ line,
-  at,
-  lines_more IsLine xs i d rest line (omega (arith, lt)) are is,
+  between,
+  is,
+  lines_more o image xs i d between before after rest line (omega (arith, lt)) are at,
   ap (λ t. t ++ line) joins ∙ append_assoc first rest line,
 )
 

@@ -1,10 +1,12 @@
 -- The programs that are found in an image of storage, a line for each.
-use Rattle.std.specs.Prelude.{◌≡◌, ◌⊎◌, ℕ, Bool, not, List, [], ◌∷◌, ◌++◌, Option, Some, None, take}
+use Rattle.std.specs.Prelude.{◌≡◌, ◌⊎◌, ◌<◌, ◌-◌, ℕ, Bool, not, List, [], ◌∷◌, ◌++◌, take}
+use Rattle.std.specs.Prelude.{Option, Some, None}
 use Rattle.chan_deck.specs.Reading.{is_empty}
 use Rattle.std.specs.Io.KnownBytes.{Appends}
 use Rattle.ccw_core.specs.Written.{AppendsPrefix}
 use Rattle.chan_deck.specs.PartsImage.{storage_with}
-use Rattle.chan_deck.specs.VerdictLine.{program_line}
+use Rattle.chan_deck.specs.Shape.{HasPlaceCount}
+use Rattle.chan_deck.specs.VerdictLine.{program_line, unjudged_line}
 use Rattle.chan_walk.specs.declared.job.Job.{Job}
 use Rattle.chan_walk.specs.declared.verdict.Verdict.{Verdict}
 use Rattle.chan_walk.specs.Answers.{IsAnswer}
@@ -15,6 +17,7 @@ use Rattle.chan_run.specs.Image.{IsNoImage, IsProgramAt, IsWholeImage}
 use Rattle.chan_deck.specs.ImageNote.{deck_note, find_note}
 use Rattle.chan_run.specs.Output.{IsUnwritten}
 use Rattle.chan_run.specs.Response.{IsBareResponse, IsDelivered, IsResponseWithoutOutput}
+use Rattle.chan_run.specs.declared.find.TheConstants.{PLACES_JUDGED}
 use Rattle.chan_run.specs.declared.failure.Failure.{Failure}
 use Rattle.chan_run.specs.declared.response.Response.{Response}
 use Rattle.chan_run.specs.declared.failure.Failure.TheVariants as failures
@@ -27,30 +30,40 @@ abbrev pub IsVerdictOrNone : Job → Option Verdict → Type 0
 IsVerdictOrNone k (Some v) = IsAnswer k v
 IsVerdictOrNone k None = HasMoreThan k k.limit
 
--- the line of a job's program says the verdict on its open job, and what the program looks like, of
--- which tests hold the text
-pub record IsProgramLine (j : Job) (line : List ℕ) : Type 0 where
+-- how many places are judged for it: all that are reachable, or if they are more than the limit, as
+-- many as that
+abbrev pub AreJudged : Job → Option Verdict → ℕ → Type 0
+AreJudged k (Some v) n = HasPlaceCount k n
+AreJudged k None n = n ≡ k.limit
+
+-- the line of a job's program says the verdict on its open job, for which so many places are
+-- judged, and what the program looks like, of which tests hold the text
+pub record IsProgramLine (j : Job) (line : List ℕ) (places : ℕ) : Type 0 where
   pub opened : Job
   pub is_open : IsOpenJob j opened
   pub verdict : Option Verdict
   pub judged : IsVerdictOrNone opened verdict
+  pub counted : AreJudged opened verdict places
   pub shape : List ℕ
   pub is : line ≡ program_line j.start verdict shape
 
--- the line of the program that begins at an address in an image
-abbrev pub IsLineAt : ImageOptions → List ℕ → ℕ → List ℕ → Type 0
-IsLineAt o image a line = (j : Job) × IsProgramAt o image a j × IsProgramLine j line
+-- the line of the program that begins at an address in an image, if it is judged
+abbrev pub IsJudgedAt : ImageOptions → List ℕ → ℕ → List ℕ → ℕ → Type 0
+IsJudgedAt o image a line places = (j : Job) × IsProgramAt o image a j × IsProgramLine j line places
 
--- the text has such a line for each of these, in order
-abbrev pub AreLines : {X : Type 0} → (X → List ℕ → Type 0) → List X → List ℕ → Type 0
-AreLines IsLine [] text = text ≡ []
-AreLines IsLine (x ∷ xs) text =
-    (line : List ℕ) × (rest : List ℕ) × IsLine x line × AreLines IsLine xs rest
-    × (text ≡ line ++ rest)
+-- its line, if so many places are left to be judged before it, and so many after it: it is judged
+-- exactly if any is left
+abbrev pub IsLineAt : ImageOptions → List ℕ → ℕ → ℕ → List ℕ → ℕ → Type 0
+IsLineAt o image a left line after =
+    ((left ≡ 0) × (line ≡ unjudged_line a) × (after ≡ 0))
+    ⊎ ((0 < left) × (places : ℕ) × IsJudgedAt o image a line places × (after ≡ left - places))
 
 -- the text has the line of the program at each of these addresses, in order
-abbrev pub AreLinesAt : ImageOptions → List ℕ → List ℕ → List ℕ → Type 0
-AreLinesAt o image = AreLines (IsLineAt o image)
+abbrev pub AreLinesAt : ImageOptions → List ℕ → ℕ → List ℕ → List ℕ → ℕ → Type 0
+AreLinesAt o image left [] text after = (text ≡ []) × (after ≡ left)
+AreLinesAt o image left (a ∷ starts) text after =
+    (line : List ℕ) × (rest : List ℕ) × (between : ℕ) × IsLineAt o image a left line between
+    × AreLinesAt o image between starts rest after × (text ≡ line ++ rest)
 
 -- starts of programs in an image
 abbrev pub AreStartsInImage : ImageOptions → List ℕ → List ℕ → Type 0
@@ -60,7 +73,8 @@ AreStartsInImage o image = AreStarts (storage_with o.at image)
 pub record AreWritten (Wrote : List ℕ → Type 0) (o : ImageOptions) (image : List ℕ)
     (starts : List ℕ) : Type 0 where
   pub text : List ℕ
-  pub lines : AreLinesAt o image starts text
+  pub after : ℕ
+  pub lines : AreLinesAt o image PLACES_JUDGED starts text after
   pub written : Wrote text
 
 -- what each outcome of a search says of an image and the output: all lines were written; or, if a

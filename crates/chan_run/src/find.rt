@@ -5,7 +5,7 @@ ghost use Rattle.std.specs.Prelude.{string_bytes};
 ghost use Rattle.ccw_core.specs.Held.{bytes_held};
 ghost use Rattle.chan_deck.specs.PartsImage.{storage_with};
 ghost use Rattle.chan_run.specs.Find.{IsFindDelivered, IsFindNote, IsFindResponse, IsSearchOutput};
-ghost use Rattle.chan_run.specs.Find.{IsLineAt};
+ghost use Rattle.chan_run.specs.Find.{IsJudgedAt, IsLineAt};
 ghost use Rattle.chan_run.specs.Name.{name_in};
 ghost use Rattle.chan_run.specs.Outcome.{IsCarriedOut, IsWriteFailure};
 ghost use Rattle.chan_run.specs.declared.failure.Failure.TheVariants as failures;
@@ -20,7 +20,9 @@ use crate::least_job::job_at;
 use crate::outcome::Outcome;
 use crate::response::Response;
 use ccw_core::{Storage, Watched, write_out};
-use chan_deck::{deck_note, find_note, image_notes, place_image, program_text, shape_of};
+use chan_deck::{
+    deck_note, find_note, image_notes, place_image, program_text, shape_of, unjudged_text,
+};
 use chan_find::program_starts;
 use chan_walk::{OpenJob, WalkError, survey};
 use std::alloc::{AllocError, Global};
@@ -28,7 +30,8 @@ use std::io::{Read, Write};
 
 /// Reads an image of storage to the end of the input, and writes a line for each program in it, in
 /// order: the start in six digits, and the verdict on the program's open job with how many CCWs the
-/// program has and the names of its first commands, or `too many places`.
+/// program has and the names of its first commands, or `too many places`; or `not judged`, if the
+/// programs before it took too many places in all.
 ///
 /// Of the options it uses the device, the limit, and the address and size for the image. Each line
 /// is written with one write, as soon as its verdict is known, and at the end the output is
@@ -98,6 +101,10 @@ fn notes_on_image(alloc: Global, outcome: Outcome, at: u32, image: &[u8]) -> Opt
     }
 }
 
+/// How many places `find` judges in one image: as many as the largest storage has, one for each
+/// doubleword and way to enter it. So programs that share no place are all judged.
+const PLACES_JUDGED: usize = 16_777_216;
+
 /// Writes a line for each program in an image, as each verdict is known, and says what came of it.
 /// Beside that stands the note on the image, or an empty text.
 fn write_programs<W: Write>(
@@ -123,8 +130,9 @@ fn write_programs<W: Write>(
     let Ok(starts) = program_starts(alloc, &storage, options.device) else {
         return no_memory;
     };
+    let mut left = PLACES_JUDGED;
     for start in starts.as_slice() {
-        let Ok(line) = program_line(alloc, options, storage, *start) else {
+        let Ok(line) = program_line(alloc, options, storage, *start, &mut left) else {
             return no_memory;
         };
         if write_out(line.as_bytes(), to).is_err() {
@@ -134,15 +142,38 @@ fn write_programs<W: Write>(
     (Outcome::Done, find_note(image, !starts.is_empty()))
 }
 
-/// The line of the program that begins at an address in storage.
+/// The line of the program that begins at an address in storage. `left` is how many places may
+/// still be judged: a program that begins before none is left is judged whole.
 fn program_line(
     alloc: Global,
     options: &ImageOptions,
     storage: Storage<'_>,
     start: u32,
+    left: &mut usize,
 ) -> Result<String, AllocError>
     ensures { (image : List ℕ) → bytes_held storage.entry ≡ storage_with options.now.at image
-        → IfOk result (λ line. IsLineAt options.now image start (string_bytes line)) }
+        → IfOk result (λ line. IsLineAt options.now image start left.old (string_bytes line)
+        left.new) }
+{
+    if *left == 0 {
+        return unjudged_text(alloc, start);
+    }
+    let (line, places) = judged_line(alloc, options, storage, start)?;
+    *left = left.saturating_sub(places);
+    Ok(line)
+}
+
+/// The line of the program that begins at an address in storage, with its verdict, and how many
+/// places that took.
+fn judged_line(
+    alloc: Global,
+    options: &ImageOptions,
+    storage: Storage<'_>,
+    start: u32,
+) -> Result<(String, usize), AllocError>
+    ensures { (image : List ℕ) → bytes_held storage.entry ≡ storage_with options.now.at image
+        → IfOk result (λ judged. IsJudgedAt options.now image start (string_bytes judged.0)
+        judged.1) }
 {
     let job = job_at(options, storage, start);
     let open = OpenJob::of(alloc, &job)?;
@@ -150,10 +181,14 @@ fn program_line(
     match survey(alloc, &open_job) {
         Ok(survey) => {
             let verdict = survey.verdict();
-            let shape = shape_of(alloc, survey)?;
-            program_text(alloc, job.start, Some(verdict), shape.as_str())
+            let (shape, places) = shape_of(alloc, survey)?;
+            let line = program_text(alloc, job.start, Some(verdict), shape.as_str())?;
+            Ok((line, places))
         }
-        Err(WalkError::TooManyPlaces) => program_text(alloc, job.start, None, ""),
+        Err(WalkError::TooManyPlaces) => {
+            let line = program_text(alloc, job.start, None, "")?;
+            Ok((line, open_job.limit.get() as usize))
+        }
         Err(WalkError::Memory) => Err(AllocError),
     }
 }

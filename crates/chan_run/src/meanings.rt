@@ -7,7 +7,7 @@ use crate::failure::Failure;
 use crate::outcome::Outcome;
 use crate::texts::write_texts;
 use ccw_core::{Watched, write_out};
-use chan_deck::{WORDS, nearest_word, spelled_text, word_row};
+use chan_deck::{WORDS_AT_LENGTH, WORDS_IN_SHORT, nearest_word, spelled_text, word_row};
 use std::alloc::{AllocError, Global};
 use std::io::Write;
 
@@ -54,7 +54,7 @@ pub fn list_words<W: Write>(to: &mut Watched<W>) -> Outcome
     requires { to.old.failed ≡ false }
     ensures write { IsWriteFailure result ↔ (to.new.failed ≡ true) }
 {
-    for row in &WORDS {
+    for row in WORDS_AT_LENGTH.iter().chain(WORDS_IN_SHORT.iter()) {
         let line = match row.split_once("\n") {
             Some((first, _)) => first,
             None => *row,

@@ -5,7 +5,7 @@ use Rattle.std.specs.Io.KnownBytes.{Appends}
 use Rattle.ccw_core.proofs.Prefixes.{prefix_after}
 use Rattle.ccw_core.specs.Held.{bytes_held}
 use Rattle.chan_deck.specs.PartsImage.{storage_with}
-use Rattle.chan_run.specs.Find.{IsLineAt}
+use Rattle.chan_run.specs.declared.find.TheConstants.{PLACES_JUDGED}
 use Rattle.chan_run.proofs.FoundLemmas.{lines_more, starts_over}
 use Rattle.chan_run.proofs.find.write_programs.Goals as goal
 
@@ -21,7 +21,8 @@ loop-start-preserved g c =
       search rules,
       (
         text ++ line,
-        rw add-one (lines_more (IsLineAt o image) c.as_slice-start-items.result.now c.loop-start.start-index 0 text line c.loop-start-test.true lines at),
+        rw add-one
+            (lines_more o image c.as_slice-start-items.result.now c.loop-start.start-index 0 PLACES_JUDGED _ _ text line c.loop-start-test.true lines at),
         Appends-trans _ _ _ text line app more,
       ),
     )
@@ -39,7 +40,8 @@ returns-then-is_err-clause-answer g c =
       suc c.loop-start.start-index,
       record {
         text = text ++ line;
-        lines = lines_more (IsLineAt o image) starts.result.now c.loop-start.start-index 0 text line c.loop-start-test.true lines
+        after = c.program_line.new.left;
+        lines = lines_more o image starts.result.now c.loop-start.start-index 0 PLACES_JUDGED _ _ text line c.loop-start-test.true lines
             (c.in-Ok-program_line.ensures image held);
         written = prefix_after _ _ _ text line app (rw c.as_bytes.ensures.value at c.write_out.ensures.prefix);
       },
@@ -57,7 +59,7 @@ returns-in_default-program_line-clause-answer g c =
       starts.result.now,
       starts_over o image _ _ _ held starts.ensures.value c.in-Ok-program_starts.ensures,
       c.loop-start.start-index,
-      record { text = text; lines = lines; written = app },
+      record { text = text; after = c.loop-start.left; lines = lines; written = app },
     )
 
 pub returns-clause-answer : goal.returns-clause-answer
@@ -69,7 +71,7 @@ returns-clause-answer g c =
     let (sound, (text, lines, app)) = c.loop-start.invariant in (
       starts.result.now,
       starts_over o image _ _ _ held starts.ensures.value c.in-Ok-program_starts.ensures,
-      record { text = text; lines = rw (take_all _ _ c.loop-start-test.false) at lines; written = app },
+      record { text = text; after = c.loop-start.left; lines = rw (take_all _ _ c.loop-start-test.false) at lines; written = app },
     )
 
 pub returns-clause-note : goal.returns-clause-note

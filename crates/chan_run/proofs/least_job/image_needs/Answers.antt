@@ -1,4 +1,5 @@
 use Rattle.std.proofs.Common.{◌∙◌, ◌≡◌, rules, string_bytes, sym}
+use Rattle.std.proofs.lemmas.Result.{err_from_is_err_and}
 use Rattle.chan_walk.specs.Answers.{IsAnswer}
 use Rattle.chan_walk.specs.Places.{HasMoreThan}
 use Rattle.chan_walk.specs.Offence.{first_verdict}
@@ -19,3 +20,8 @@ returns-in-No-clause-err c = λ o image there.
     c.args.job.now c.job-open_job.result there
     (c.job-open_job.ensures.open c.args.job.now c.in_ok-open.ensures)
     (rw no at c.in-Ok.ensures.answer, c.in_ok-open_explanation-in-No.ensures)
+
+pub returns-in_err-open_explanation-in-No-clause-err : goal.returns-in_err-open_explanation-in-No-clause-err
+returns-in_err-open_explanation-in-No-clause-err c =
+    let p = err_from_is_err_and c.from_residual-in_err-open_explanation-in-No.result c.from_residual-in_err-open_explanation-in-No.ensures.1 in
+    rw (p.1, p.2) (λ o image there. tt)
