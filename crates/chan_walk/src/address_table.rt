@@ -17,7 +17,7 @@ const PAGE: u32 = 8_192;
 const ROW: usize = 1_024;
 
 /// For how many addresses a number is kept in an ordered map before pages are made.
-const FEW: usize = 32;
+const FEW: usize = 8;
 
 /// A number for each address: 0, unless another one is set.
 ///

@@ -52,13 +52,15 @@ impl Walk {
             → HasNoRoomFor job.now.limit place (places_of_looks self.old.looks.items) }
     {
         if let Some(place) = place {
-            if self.table.index_of(self.looks.as_slice(), place).is_none() {
+            let last = self.table.last_at(place.address);
+            let found = self.table.index_from(self.looks.as_slice(), place, last);
+            if found.is_none() {
                 if self.looks.len() >= job.limit.get() as usize {
                     return Err(WalkError::TooManyPlaces);
                 }
                 self.looks.push(look_by(job, Lending::Merged(lent), place))?;
                 self.found_from.push(from)?;
-                self.table.push(place)?;
+                self.table.push(place, last)?;
             }
         }
         Ok(())

@@ -2,12 +2,12 @@ use Rattle.chan_walk.proofs.Names.{ap, arith, places_of_looks, Some, subst, sym,
 use Rattle.chan_walk.proofs.Algorithms.Marks.{same_number}
 use Rattle.chan_walk.proofs.Algorithms.PlaceTable.{IsLeftBelow, left_first, left_look, look_below, none_left}
 use Rattle.chan_walk.specs.Places.{place_number}
-use Rattle.chan_walk.proofs.place_table.PlaceTable.index_of.Goals as goal
+use Rattle.chan_walk.proofs.place_table.PlaceTable.index_from.Goals as goal
 
 pub loop-end-init : goal.loop-end-init
 loop-end-init c =
     let ps = places_of_looks c.args.looks.now in
-    subst (IsLeftBelow ps c.args.place) (sym c.get-end.ensures) (left_first ps c.args.place _ (c.requires.last c.args.place.address))
+    subst (IsLeftBelow ps c.args.place) (sym c.requires.last) (left_first ps c.args.place _ (c.requires.finds.last c.args.place.address))
 
 pub returns-then-number : goal.returns-then-number
 returns-then-number c =
@@ -20,7 +20,7 @@ pub loop-end-smaller : goal.loop-end-smaller
 loop-end-smaller c =
     let l = c.index-looks-index.result in
     let there = look_below c.args.looks.now c.args.place c.loop-end.end l c.loop-end.invariant c.loop-end-test.true c.index-looks-index.is in
-    (left_look c.args.self.now c.args.looks.now c.args.place l.place c.loop-end.end c.index.result.now c.requires c.loop-end.invariant
+    (left_look c.args.self.now c.args.looks.now c.args.place l.place c.loop-end.end c.index.result.now c.requires.finds c.loop-end.invariant
     c.loop-end-test.true there (λ e. c.if-number.false
     (c.number.ensures ∙ ap place_number c.place.ensures ∙ e ∙ sym c.number-in-loop-end.ensures)) c.index.ensures).1
 
@@ -28,7 +28,7 @@ pub loop-end-preserved : goal.loop-end-preserved
 loop-end-preserved c =
     let l = c.index-looks-index.result in
     let there = look_below c.args.looks.now c.args.place c.loop-end.end l c.loop-end.invariant c.loop-end-test.true c.index-looks-index.is in
-    (left_look c.args.self.now c.args.looks.now c.args.place l.place c.loop-end.end c.index.result.now c.requires c.loop-end.invariant
+    (left_look c.args.self.now c.args.looks.now c.args.place l.place c.loop-end.end c.index.result.now c.requires.finds c.loop-end.invariant
     c.loop-end-test.true there (λ e. c.if-number.false
     (c.number.ensures ∙ ap place_number c.place.ensures ∙ e ∙ sym c.number-in-loop-end.ensures)) c.index.ensures).0
 
