@@ -14,7 +14,7 @@ module _ (j k : Job) (one : AreOfOneProgram j k) (proper : IsProper k) (v : IsVe
   stored : (b : ℕ) → IsStoredInto k b ↔ IsNeededForStoring j b
   stored = data_under_yes k (open_job j) there v granted stores
 
-  needed_over : (P : ℕ → Type 0) → MayStoreOver k P → (b : ℕ) × IsNeededForStoring j b × P b
+  pub needed_over : (P : ℕ → Type 0) → MayStoreOver k P → (b : ℕ) × IsNeededForStoring j b × P b
   needed_over P (p, r, o) = (
     o.at,
     (stored o.at).0 (record { place = p; reached = r; passes = (clear_stands k p (yes_clear k v p r), o.stores); from = o.from; below = o.below }),

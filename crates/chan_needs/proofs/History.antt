@@ -6,22 +6,22 @@ use Rattle.chan_walk.proofs.Theory.Lists.{all_map}
 use Rattle.chan_walk.proofs.Machine.Yes.{no_change, each_ok, step_spares, yes_is_safe_among}
 
 -- a step of one program leaves what another sees as it was, where P holds
-seen : (j : Job) → IsVerdict j Yes → (P : ℕ → Type 0) → (MayStoreOver j P → ⊥) → (m n : Moment) (ms : List Moment)
+pub seen : (j : Job) → IsVerdict j Yes → (P : ℕ → Type 0) → (MayStoreOver j P → ⊥) → (m n : Moment) (ms : List Moment)
     → IsSpared j (m ∷ ms) → Steps m n → (s t : List ℕ) → s ≡ m.storage → t ≡ n.storage → IsSameIn P s t
 seen j v P never m n ms r w s t e f =
     let k = step_spares j v P never m.storage m.arm m.mask m.stage n.events n.storage n.arm n.mask n.stage w (each_ok j v (m ∷ ms) r).0.kept in
     record { same_length = rw e (rw f k.same_length); same = λ b h. rw e (rw f (k.same b h)) }
 
 -- what is known of a program in flight
-record Kept (j : Job) (m : Moment) : Type 0 where
-  mask : HasMask j
-  verdict : IsVerdict j Yes
-  before : List Moment
-  spared : IsSpared j (m ∷ before)
+pub record Kept (j : Job) (m : Moment) : Type 0 where
+  pub mask : HasMask j
+  pub verdict : IsVerdict j Yes
+  pub before : List Moment
+  pub spared : IsSpared j (m ∷ before)
 
 -- of all of them
-record Sound (a : Situation) : Type 0 where
-  kept : (i : ℕ) (f : Flight) → a.at i ≡ Some f → Kept f.job f.moment
+pub record Sound (a : Situation) : Type 0 where
+  pub kept : (i : ℕ) (f : Flight) → a.at i ≡ Some f → Kept f.job f.moment
   compatible : (i k : ℕ) (f g : Flight) → a.at i ≡ Some f → a.at k ≡ Some g → MayStoreOver f.job (IsGuarded g.job) → ⊥
 
 -- a program that begins has waited since it was asked about
@@ -140,7 +140,7 @@ module _ (a b : Situation) (sound : Sound a) where
       waits : (k : ℕ) (g : Flight) → b.at k ≡ Some g → ProgramWaits (a.at k) (Some g) → Spares (a.at k) a.storage b.storage → Was a k g
       waits k g z r h = waited k g (a.at k) refl z r (λ f d. subst (λ x. Spares x a.storage b.storage) d h)
 
-all_sound : (history : List Situation) → IsHistory history → AllByRecursion Sound history
+pub all_sound : (history : List Situation) → IsHistory history → AllByRecursion Sound history
 all_sound [] h = absurd h
 all_sound (a ∷ []) h = (record { kept = λ i f e. absurd (none i f e); compatible = λ i k f g d e u. none i f d }, tt)
   where

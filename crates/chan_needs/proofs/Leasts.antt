@@ -5,6 +5,7 @@ use Rattle.std.proofs.lemmas.Bool.{false_from_ne_true}
 use Rattle.std.proofs.lemmas.List.Folds.{list_any-append}
 use Rattle.chan_needs.proofs.Holding.{nowhere}
 use Rattle.chan_areas.proofs.Merging.{lies_in-append}
+use Rattle.chan_areas.proofs.Searching.{merged_order}
 
 -- ---- the lesser of two leasts
 
@@ -98,6 +99,25 @@ pub merged_from : (xs : List Area) (i : ℕ) → i < length xs → 0 < (get_or x
 merged_from [] i l f a m = absurd (omega arith)
 merged_from (x ∷ xs) zero l f a m = (f, begin_above (end_of x) xs (λ k. a (omega arith)) m, m)
 merged_from (x ∷ xs) (suc i) l f a m = merged_from xs i (omega arith) f (λ k. a (omega arith)) m
+
+-- all areas are merged exactly if those from i on are, and the first of these begins at n or above
+pub record MayGoOn (xs : List Area) (i n : ℕ) : Type 0 where
+  pub joins : IsMerged (drop i xs) → (i < length xs → n ≤ (get_or xs i nowhere).start) → IsMerged xs
+  pub begins : IsMerged xs → i < length xs → n ≤ (get_or xs i nowhere).start
+
+pub go_on_first : (xs : List Area) → MayGoOn xs 0 0
+go_on_first xs = record { joins = λ m h. m; begins = λ m l. omega arith }
+
+pub go_on_next : (xs : List Area) (i n m : ℕ) → i < length xs → 0 < (get_or xs i nowhere).len → n ≤ (get_or xs i nowhere).start
+    → m ≡ end_of (get_or xs i nowhere) + 1 → MayGoOn xs i n → MayGoOn xs (i + 1) m
+go_on_next xs i n m l filled begun e h = record {
+  joins = λ rest next. h.joins
+      (merged_from xs i l filled (λ k. grind (arith, next)) (subst (λ (k : ℕ). IsMerged (drop k xs)) one rest)) (λ k. begun);
+  begins = λ all k. let f = merged_order xs i (i + 1) nowhere all (omega arith) k in omega arith;
+}
+  where
+    one : i + 1 ≡ suc i
+    one = omega arith
 
 -- ---- what was lent, as far as it lies in storage
 

@@ -22,4 +22,5 @@ pub mod Possible
 pub mod Naming
 pub mod Staying
 pub mod Lasting
+pub mod LastingKeeps
 pub mod Answering

@@ -5,15 +5,15 @@ use Rattle.chan_needs.proofs.History.{stays_well}
 use Rattle.chan_needs.proofs.Remembering.{spared_by, starts_well}
 use Rattle.chan_needs.proofs.Beginning.{others}
 
-abbrev situations : List Supervision → List Situation
+abbrev pub situations : List Supervision → List Situation
 situations run = map (λ (v : Supervision). v.situation) run
 
 -- what is remembered under number i is true of a program
-abbrev IsNoted : Supervision → ℕ → Flight → Type 0
+abbrev pub IsNoted : Supervision → ℕ → Flight → Type 0
 IsNoted v i g = (p : Remembered) × (v.programs i ≡ Some p) × IsInFlight p g.job
 
 -- what is remembered is true of the programs in flight
-abbrev IsTrueAt : Supervision → Type 0
+abbrev pub IsTrueAt : Supervision → Type 0
 IsTrueAt v = (i : ℕ) (g : Flight) → v.situation.at i ≡ Some g → IsNoted v i g
 
 listed_in_flight : (v : Supervision) (fs : List Remembered) → IsTrueAt v → ListsRemembered v.programs fs → AreInFlight v.situation fs
@@ -99,7 +99,7 @@ module _ (v w : Supervision) (h : IsTrueAt v) where
 
 -- ---- always
 
-supervised : (v : Supervision) (before : List Supervision) → IsSupervised (v ∷ before) → IsHistory (v.situation ∷ situations before) × IsTrueAt v
+pub supervised : (v : Supervision) (before : List Supervision) → IsSupervised (v ∷ before) → IsHistory (v.situation ∷ situations before) × IsTrueAt v
 supervised v [] none = (none, λ i g e. let s : None ≡ Some g = sym (none i) ∙ e in absurd cc)
 supervised w (v ∷ before) (run, goes) = let t = supervised v before run in ((t.0, comes_next v w t.1 goes), stays_true v w t.1 goes)
 

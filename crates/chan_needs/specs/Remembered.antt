@@ -1,10 +1,10 @@
 -- What a supervisor remembers of programs: what they keep, and whether others may write while they
 -- run.
-use Rattle.std.specs.Prelude.{◌≡◌, ℕ, ◌+◌, ◌<◌, ◌≤◌, List, [], ◌∷◌, ◌++◌, drop}
-use Rattle.std.specs.Prelude.{length, take, Option, None, Some, ◌⊎◌}
+use Rattle.std.specs.Prelude.{◌≡◌, ℕ, ◌+◌, ◌-◌, ◌^◌, ◌<◌, ◌≤◌, List, [], ◌∷◌, ◌++◌, drop}
+use Rattle.std.specs.Prelude.{length, take, Option, None, Some, true, ◌⊎◌}
 use Rattle.std.specs.List.{All, AllWithin, HoldsAt}
 use Rattle.ccw_core.specs.declared.areas.Area.{Area}
-use Rattle.ccw_core.specs.Areas.{end_of}
+use Rattle.ccw_core.specs.Areas.{end_of, lies_in}
 use Rattle.ccw_core.specs.Ccw.{byte}
 use Rattle.ckd_core.specs.declared.device.Device.{Device}
 use Rattle.ckd_core.specs.declared.device.Device.TheVariants.{D2311, D2314}
@@ -115,6 +115,16 @@ IsKeeperOf fs a None = All (KeepsNone a) fs
 IsKeeperOf fs a (Some (i, b)) =
     (f : Remembered) × IsInFlightAt fs i f
     × AllWithin (KeepsNone a) fs 0 i × IsLeastOf (IsKeptIn (listed_in f.needs) a) b
+
+-- the program keeps the byte at b, and b is past all storage or lies in no area
+abbrev pub IsKeptOutside : Remembered → List Area → ℕ → Type 0
+IsKeptOutside p areas b =
+    (lies_in p.needs.keep.now b ≡ true) × ((b < 2 ^ 32 - 1) × (lies_in areas b ≡ true) → ⊥)
+
+-- a write that shares no byte with the areas meets none that the program keeps
+abbrev pub SparesOutside : Remembered → List Area → Type 0
+SparesOutside p areas =
+    (a : Area) → ((b : ℕ) → IsByteOf a b → lies_in areas b ≡ true → ⊥) → KeepsNone a p
 
 -- storage becomes t, in bytes of the area alone
 abbrev pub IsWritten : Area → List ℕ → List ℕ → Type 0

@@ -2,7 +2,7 @@
 -- `may_write` names no program, then all programs in flight are well.
 use Rattle.std.specs.Prelude.{◌≡◌, ℕ, List, [], ◌∷◌, length, map, Option, Some, None, IsSome}
 use Rattle.std.specs.Prelude.{◌⊎◌, false, true}
-use Rattle.std.specs.List.{AllByRecursion}
+use Rattle.std.specs.List.{All, AllByRecursion}
 use Rattle.ccw_core.specs.declared.areas.Area.{Area}
 use Rattle.chan_walk.specs.declared.job.Job.{Job}
 use Rattle.chan_needs.specs.declared.layout.Remembered.{Remembered}
@@ -17,8 +17,8 @@ use Rattle.chan_needs.specs.Remembered.{AreInFlight, HoldsKept, IsKeeperOf, IsIn
 use Rattle.chan_needs.specs.Remembered.{KeepsNone}
 use Rattle.chan_needs.specs.Remembered.{IsRemembered, IsWritten, device_number}
 use Rattle.chan_needs.specs.Listed.{AreNeeds, listed_in}
-use Rattle.chan_needs.specs.Start.{IsAnswerOf}
-use Rattle.chan_walk.specs.Runs.{IsStart, Moment, Steps}
+use Rattle.chan_needs.specs.Start.{IsAnswerOf, IsCompatibleWith}
+use Rattle.chan_walk.specs.Runs.{IsSameIn, IsStart, Moment, Steps}
 
 -- a situation, and what the supervisor remembers under each number
 pub record Supervision : Type 0 where
@@ -144,6 +144,24 @@ pub record CanBeSupervised : Type 0 where
       → ListsRemembered v.programs fs → IsKeeperOf fs area None
       → IsWritten area v.situation.storage t → MayWrite v t
 
+-- ---- a row that stays in the table
+
+-- a program starts, and the question whether it may was about a list with f
+abbrev pub StartsBeside : Remembered → Supervision → Supervision → ℕ → Type 0
+StartsBeside f v w i = (s : ProgramStartsAt v w i) × Has s.allowed.in_flight f
+
+-- others write, and the question whether they may was about a list with f
+abbrev pub WritesBeside : Remembered → Supervision → Supervision → Type 0
+WritesBeside f v w =
+    (m : MayWrite v w.situation.storage) × Has m.in_flight f × ((k : ℕ) → ProgramWaitsAt v w k)
+
+-- supervision goes on, and each question is about a list with f
+abbrev pub GoesOnBeside : Remembered → Supervision → Supervision → Type 0
+GoesOnBeside f v w =
+    ((i : ℕ) × (StartsBeside f v w i ⊎ ProgramGoesOnAt v w i)
+    × ((k : ℕ) → (k ≡ i) ⊎ ProgramWaitsAt v w k))
+    ⊎ WritesBeside f v w
+
 -- ---- a write that lasts, such as a tape's input into a buffer
 
 -- what stands for the write in the table: it stores over the area, and keeps nothing
@@ -158,9 +176,9 @@ IsSparedBy area v =
     → KeepsNone area p
 
 -- a row that stores over the area alone, and keeps nothing, stands for such a write, and it may
--- begin when `may_write` names no program; while it is in the table, and so in the list with which
--- each start is asked about, no program that keeps a byte of the area starts; so at each moment
--- others may write into the area, by a table of the programs in flight and the write
+-- begin when `may_write` names no program; while each question is about a list with the row, no
+-- program that keeps a byte of the area starts; so at each moment others may write into the area,
+-- by a table of the programs in flight and the write
 pub record LastingWrites : Type 0 where
   pub stands :
       (f : Remembered) (area : Area) → f.needs.store.now ≡ area ∷ [] → f.needs.keep.now ≡ []
@@ -170,11 +188,44 @@ pub record LastingWrites : Type 0 where
       → IsKeeperOf fs area None → IsSparedBy area v
   pub stays :
       (f : Remembered) (area : Area) (v w : Supervision) → IsLastingWrite area f
-      → IsSparedBy area v → SupervisionGoesOn v w
-      → ((i : ℕ) (s : ProgramStartsAt v w i) → Has s.allowed.in_flight f) → IsSparedBy area w
+      → IsSparedBy area v → GoesOnBeside f v w → IsSparedBy area w
   pub may_write :
       (f : Remembered) (area : Area) (v : Supervision) (fs : List Remembered) (t : List ℕ)
       → IsLastingWrite area f → IsSparedBy area v → ListsRemembered v.programs fs
       → ((g : Remembered) → Has fs g
       → (g ≡ f) ⊎ ((i : ℕ) × IsSome (v.situation.at i) × (v.programs i ≡ Some g)))
       → IsWritten area v.situation.storage t → MayWrite v t
+
+-- ---- bytes that last, such as the CCWs of a tape, or a prefix of the supervisor's own
+
+-- what stands for the bytes in the table: it keeps the area, and stores over nothing
+pub record IsLastingKeep (area : Area) (f : Remembered) : Type 0 where
+  pub keeps : (b : ℕ) → IsByteOf area b → lies_in f.needs.keep.now b ≡ true
+  pub stores : (b : ℕ) → lies_in f.needs.store.now b ≡ false
+
+-- no program in flight stores over a byte of the area
+abbrev pub IsUntouchedBy : Area → Supervision → Type 0
+IsUntouchedBy area v =
+    (i : ℕ) (p : Remembered) → IsSome (v.situation.at i) → v.programs i ≡ Some p
+    → (b : ℕ) → lies_in p.needs.store.now b ≡ true → IsByteOf area b → ⊥
+
+-- a row that keeps the area alone, and stores over nothing, stands for such bytes, and it may join
+-- the table when it is compatible with all that is remembered; while each question is about a list
+-- with the row, no program that stores over the area starts, and each start, step, end and write
+-- leaves the bytes of the area as they were
+pub record LastingKeeps : Type 0 where
+  pub stands :
+      (f : Remembered) (area : Area) → f.needs.keep.now ≡ area ∷ [] → f.needs.store.now ≡ []
+      → IsLastingKeep area f
+  pub begins :
+      (f : Remembered) (area : Area) (v : Supervision) (fs : List Remembered)
+      → IsLastingKeep area f → ListsRemembered v.programs fs → All (IsCompatibleWith f) fs
+      → IsUntouchedBy area v
+  pub goes_on : (f : Remembered) (v w : Supervision) → GoesOnBeside f v w → SupervisionGoesOn v w
+  pub stays :
+      (f : Remembered) (area : Area) (v w : Supervision) → IsLastingKeep area f
+      → IsUntouchedBy area v → GoesOnBeside f v w → IsUntouchedBy area w
+  pub same :
+      (f : Remembered) (area : Area) (v w : Supervision) (before : List Supervision)
+      → IsLastingKeep area f → IsSupervised (v ∷ before) → IsUntouchedBy area v
+      → GoesOnBeside f v w → IsSameIn (IsByteOf area) v.situation.storage w.situation.storage

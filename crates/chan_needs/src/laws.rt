@@ -12,8 +12,8 @@ ghost use Rattle.chan_needs.specs.Asked.{AskedMayStart, EachMayLeave, EachMaySta
 ghost use Rattle.chan_needs.specs.Asked.{FitIsAsked, HistoryBegins, OthersMayChange};
 ghost use Rattle.chan_needs.specs.Remembered.{NamedIsFirst};
 ghost use Rattle.chan_needs.specs.Staying.{AnswerStays, HeldStaysTrue, NeedsStay};
-ghost use Rattle.chan_needs.specs.Supervised.{CanBeSupervised, LastingWrites, SupervisedGoesOn};
-ghost use Rattle.chan_needs.specs.Supervised.{SupervisedStaysWell};
+ghost use Rattle.chan_needs.specs.Supervised.{CanBeSupervised, LastingKeeps, LastingWrites};
+ghost use Rattle.chan_needs.specs.Supervised.{SupervisedGoesOn, SupervisedStaysWell};
 
 /// Programs may start and leave at any time on one storage, while others change bytes that no
 /// program in flight guards. If each program that starts has a yes and is compatible with the
@@ -170,6 +170,13 @@ pub(crate) fn supervised_goes_on()
 /// others may write into the area at each moment.
 pub(crate) fn lasting_writes()
     ensures { LastingWrites }
+{}
+
+/// While bytes that last are in the table, no program that stores over their area starts, and each
+/// step of supervision leaves them as they were.
+#[tactic(auto, using(crate::proofs::LastingKeeps::lasting_keeps))]
+pub(crate) fn lasting_keeps()
+    ensures { LastingKeeps }
 {}
 
 /// The laws on supervision aren't empty: it begins over any storage; what is remembered, listed,

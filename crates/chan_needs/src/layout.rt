@@ -1,7 +1,7 @@
-//! What C lays out, and everything of this crate that is for C alone: the order of fields, room for
-//! later fields, and lists that come with a null pointer. The structs are here and not in the
-//! library for C, because the questions are about whole tables of programs, which a supervisor's
-//! start must not have to copy. The other files take each list by a call of this one.
+//! What C lays out, and everything of this crate that is for C alone: the order of fields, and
+//! lists that come with a null pointer. The structs are here and not in the library for C, because
+//! the questions are about whole tables of programs, which a supervisor's start must not have to
+//! copy. The other files take each list by a call of this one.
 
 ghost use Rattle.std.specs.Prelude.{◌≡◌, ◌≢◌, [], map, IfErr, IfOk};
 ghost use Rattle.chan_needs.specs.Listed.{pair};
@@ -52,9 +52,6 @@ pub struct Remembered<'a> {
     pub start: u32,
     /// The number of the device, 2311 or 2314.
     pub device: u16,
-    /// Room for the fields of a later version; 0 in this version. No call of this crate looks at
-    /// it.
-    pub reserved: [u64; 4],
 }
 
 /// The list, or an empty list of our own if it has no elements: from C its pointer may be null, and

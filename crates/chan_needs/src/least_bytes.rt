@@ -1,9 +1,11 @@
 //! The least byte or cylinder of lists that is shared, not lent, or in no extent.
 
-ghost use Rattle.std.specs.Prelude.{◌≡◌, ◌<◌, ◌↔◌, ◌≤◌, true, false, map, IfOk, IsTrue};
+ghost use Rattle.std.specs.Prelude.{◌≡◌, ◌+◌, ◌-◌, ◌<◌, ◌↔◌, ◌≤◌, true, false, length, map, IfOk};
+ghost use Rattle.std.specs.Prelude.{IsTrue};
+ghost use Rattle.std.specs.List.{HoldsAt};
 ghost use Rattle.ccw_core.specs.Areas.{lies_in};
 ghost use Rattle.ckd_core.specs.Extents.{has_cylinder};
-ghost use Rattle.chan_areas.specs.Merged.{IsLeastOrNone, IsByteOf, IsMerged};
+ghost use Rattle.chan_areas.specs.Merged.{EndsBelow, IsByteOf, IsLeastOrNone, IsMerged};
 ghost use Rattle.chan_needs.specs.LeastBytes.{lesser_of};
 ghost use Rattle.chan_needs.specs.Listed.{IsShared, pair};
 
@@ -28,14 +30,17 @@ pub(crate) fn least_in(areas: &[Area], range: Area) -> Option<u32>
     least
 }
 
-/// The least byte that lies in both lists. It costs one pass over both if they are merged or if a
-/// list has a single area, and otherwise the product of their lengths.
+/// The least byte that lies in both lists. An empty list costs nothing. Two merged lists cost one
+/// pass over each, and the search of `least_of_merged`; other lists cost the product of their
+/// lengths.
 #[tactic(auto, using(crate::proofs::Leasts::no_byte, crate::proofs::Leasts::least_in_areas))]
 pub(crate) fn least_shared(one: &[Area], other: &[Area]) -> Option<u32>
     ensures { IsLeastOrNone (IsShared one.now other.now) result }
 {
-    let are_long = one.len() > 1 && other.len() > 1;
-    if are_long && are_merged(one) && are_merged(other) {
+    if one.is_empty() || other.is_empty() {
+        return None;
+    }
+    if are_merged(one) && are_merged(other) {
         return least_of_merged(one, other);
     }
     let mut least = None;
@@ -45,7 +50,9 @@ pub(crate) fn least_shared(one: &[Area], other: &[Area]) -> Option<u32>
     least
 }
 
-/// The least byte that lies in both merged lists. It costs one pass over both.
+/// The least byte that lies in both merged lists. The search skips areas that end before the other
+/// list goes on: with m areas in the shorter list and n in the longer, it costs m log² n or m + n,
+/// whichever is less, and next to nothing if one list ends before the other begins.
 #[tactic(auto, using(crate::proofs::Holding::ahead_rules))]
 fn least_of_merged(one: &[Area], other: &[Area]) -> Option<u32>
     requires one { IsMerged one.now }
@@ -56,9 +63,9 @@ fn least_of_merged(one: &[Area], other: &[Area]) -> Option<u32>
     while at < one.len() && with < other.len() {
         let (area, against) = (one[at], other[with]);
         if end_of(&area) <= u64::from(against.start) {
-            at += 1;
+            at = skip_ended(one, at, against.start);
         } else if end_of(&against) <= u64::from(area.start) {
-            with += 1;
+            with = skip_ended(other, with, area.start);
         } else {
             return Some(area.start.max(against.start));
         }
@@ -66,8 +73,31 @@ fn least_of_merged(one: &[Area], other: &[Area]) -> Option<u32>
     None
 }
 
-/// The least byte of the areas that lies past storage or in no lent area. It costs a sort of the
-/// lent areas, and a binary search for each of the other areas.
+/// Skips the area at `from`, which ends by an address, and areas after it, up to another that ends
+/// by the address. The answer is the number of the next area, or the length of the list. If the
+/// list is merged, all areas that the call skips end by the address.
+///
+/// The call skips all areas at once if it can, and otherwise takes steps that double.
+fn skip_ended(areas: &[Area], from: usize, address: u32) -> usize
+    requires from { from < length areas.now }
+    requires ends { HoldsAt (EndsBelow (address + 1)) areas.now from }
+    ensures after { from < result }
+    ensures within { result ≤ length areas.now }
+    ensures last { HoldsAt (EndsBelow (address + 1)) areas.now (result - 1) }
+{
+    if end_of(&areas[areas.len() - 1]) <= u64::from(address) {
+        return areas.len();
+    }
+    let (mut at, mut step) = (from, 1);
+    while step < areas.len() - at && end_of(&areas[at + step]) <= u64::from(address) {
+        at += step;
+        step = at - from + 1;
+    }
+    at + 1
+}
+
+/// The least byte of the areas that lies past storage of this length or in no lent area. It costs a
+/// sort of the lent areas, and a binary search for each of the other areas.
 pub(crate) fn least_unlent(
     alloc: Global,
     areas: &[Area],
@@ -159,13 +189,12 @@ fn outside(first: u16, last: u16, extents: &Extents) -> Option<u16>
 fn are_merged(areas: &[Area]) -> bool
     ensures { IsTrue result ↔ IsMerged areas.now }
 {
-    for i in 0..areas.len() {
-        if areas[i].len == 0 {
+    let mut least_start = 0;
+    for area in areas {
+        if area.len == 0 || u64::from(area.start) < least_start {
             return false;
         }
-        if i + 1 < areas.len() && u64::from(areas[i + 1].start) <= end_of(&areas[i]) {
-            return false;
-        }
+        least_start = end_of(area) + 1;
     }
     true
 }

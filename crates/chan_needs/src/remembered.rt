@@ -1,17 +1,20 @@
 //! The kept bytes of a program, and whether others may write while programs run.
 
-ghost use Rattle.std.specs.Prelude.{◌≡◌, ◌+◌, ◌++◌, ◌<◌, ◌≤◌, ◌↔◌, IfSome, IsSome, IsTrue, None};
-ghost use Rattle.std.specs.Prelude.{MatchOption, drop, length, take};
+ghost use Rattle.std.specs.Prelude.{◌≡◌, ◌+◌, ◌++◌, ◌<◌, ◌≤◌, ◌↔◌, IfOk, IfSome, IsSome, IsTrue};
+ghost use Rattle.std.specs.Prelude.{MatchOption, None, drop, length, take};
 ghost use Rattle.std.specs.List.{All};
 ghost use Rattle.ccw_core.specs.Ccw.{byte};
 ghost use Rattle.ccw_core.specs.Held.{bytes_held};
 ghost use Rattle.chan_needs.specs.Remembered.{HoldsAreas, HoldsArea, IsFirstChanged};
-ghost use Rattle.chan_needs.specs.Remembered.{IsFirstChangedIn, IsInside, IsKeeperOf, WritesWell};
-ghost use Rattle.chan_needs.specs.Remembered.{bytes_in, total_len};
-ghost use Rattle.chan_areas.specs.Merged.{IsMerged};
+ghost use Rattle.chan_needs.specs.Remembered.{IsFirstChangedIn, IsInside, IsKeeperOf};
+ghost use Rattle.chan_needs.specs.Remembered.{IsKeptOutside, SparesOutside, WritesWell, bytes_in};
+ghost use Rattle.chan_needs.specs.Remembered.{total_len};
+ghost use Rattle.chan_areas.specs.Merged.{IsLeastOrNone, IsMerged};
 
-use crate::layout::Remembered;
+use crate::layout::{Remembered, or_empty};
+use crate::least_bytes::least_unlent;
 use ccw_core::{Area, Storage};
+use std::alloc::{AllocError, Global};
 
 /// Whether others, such as the processor, may write to an area now. `None` comes exactly if no
 /// program in flight keeps a byte of the area. Otherwise the answer is the number of the first
@@ -30,6 +33,27 @@ pub fn may_write(in_flight: &[Remembered], area: Area) -> Option<(usize, u32)>
         }
     }
     None
+}
+
+/// The least byte that a program keeps outside some areas. `None` comes exactly if each kept byte
+/// lies in one of them: then a write that shares no byte with the areas needs no question, as far
+/// as this program goes. A kept byte at 2^32 - 1 or above, which is in no storage, always counts as
+/// outside.
+///
+/// The areas may overlap, be empty and come in any order. The call sorts a copy of them, and takes
+/// a binary search for each kept area. It takes memory only for the copy. `Err` means that memory
+/// ran out.
+pub fn kept_outside(
+    alloc: Global,
+    program: &Remembered,
+    areas: &[Area],
+) -> Result<Option<u32>, AllocError>
+    ensures least { IfOk result (IsLeastOrNone (IsKeptOutside program.now areas.now)) }
+
+    // Then a write that shares no byte with the areas meets no kept byte.
+    ensures spared { IfOk result (λ o. o ≡ None → SparesOutside program.now areas.now) }
+{
+    least_unlent(alloc, program.needs.keep(), or_empty(areas), u32::MAX)
 }
 
 /// Copies the bytes of storage in these areas into a buffer, area after area, in the form of

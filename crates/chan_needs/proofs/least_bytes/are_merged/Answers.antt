@@ -1,22 +1,19 @@
-use Rattle.chan_needs.proofs.Names.{arith, drop, end_of, get_or, IsMerged, length, merged_len, subst, suc, ℕ, ◌+◌, ◌<◌, ◌≡◌}
+use Rattle.chan_needs.proofs.Names.{arith, merged_len, ◌+◌}
 use Rattle.chan_needs.proofs.Holding.{nowhere}
-use Rattle.chan_needs.proofs.Leasts.{merged_from}
-use Rattle.chan_areas.proofs.Searching.{merged_order}
+use Rattle.chan_needs.proofs.Leasts.{go_on_next}
 use Rattle.chan_needs.proofs.least_bytes.are_merged.Goals as goal
+use Rattle.chan_needs.proofs.least_bytes.are_merged.Goals.{then-area-eq0-via-then-area-eq0, then-area-eq0-via-else-area-eq0+then-from-least_start}
 
-pub returns-then-areas-i-eq0 : goal.returns-then-areas-i-eq0
-returns-then-areas-i-eq0 c = ((λ t. absurd cc), λ m. absurd (let f = merged_len c.args.areas.now c.loop-i.i nowhere m c.loop-i-test.true in omega arith))
-
-pub returns-then-from-end_of : goal.returns-then-from-end_of
-returns-then-from-end_of c = (
+pub returns-then-area-eq0 : goal.returns-then-area-eq0
+returns-then-area-eq0 c = (
   (λ t. absurd cc),
-  λ m. absurd (let f = merged_order c.args.areas.now c.loop-i.i (c.loop-i.i + 1) nowhere m (omega arith) (omega arith) in omega arith),
+  λ m. elim c.then-area-eq0.branch [
+    | then-area-eq0-via-then-area-eq0 w ↦ absurd (let f = merged_len c.args.areas.now c.loop-area.area-index nowhere m c.loop-area-test.true in omega arith)
+    | then-area-eq0-via-else-area-eq0+then-from-least_start w ↦ absurd (let f = c.loop-area.invariant.begins m c.loop-area-test.true in omega arith)
+  ],
 )
 
-pub loop-i-preserved : goal.loop-i-preserved
-loop-i-preserved c m =
-    let xs = c.args.areas.now in
-    let i = c.loop-i.i in
-    let one : i + 1 ≡ suc i = omega arith in
-    let apart : suc i < length xs → end_of (get_or xs i nowhere) < (get_or xs (suc i) nowhere).start = grind (arith, c.else-i-areas) in
-    c.loop-i.invariant (merged_from xs i c.loop-i-test.true (omega arith) apart (subst (λ (n : ℕ). IsMerged (drop n xs)) one m))
+pub loop-area-preserved : goal.loop-area-preserved
+loop-area-preserved c =
+    go_on_next c.args.areas.now c.loop-area.area-index c.loop-area.least_start (c.end_of-least_start.result + 1) c.loop-area-test.true
+    (omega arith) (omega arith) (omega arith) c.loop-area.invariant
