@@ -5,3 +5,4 @@ pub mod Witness
 pub mod Finder
 pub mod Notes
 pub mod Hang
+pub mod Remarks

@@ -18,10 +18,12 @@ mod hang;
 mod laws;
 mod notes;
 mod path;
+mod remarks;
 mod second_path;
 mod witness;
 
 pub use crate::exchange::seems_exchanged;
 pub use crate::hang::{can_end, hang_from};
 pub use crate::notes::{Notes, notes_from};
+pub use crate::remarks::{Remarks, remarks_from};
 pub use crate::witness::{Witness, evidence_from, offence_at, witness_from, witness_of};

@@ -140,7 +140,7 @@ fn has_machine_byte(area: &Area) -> bool
 /// The addresses of the reachable CCWs, transfers apart, whose flag for a program-controlled
 /// interruption is on.
 #[tactic(auto, using(crate::proofs::Noted::addresses_none))]
-fn interrupting(alloc: Global, looks: &[Look]) -> Result<Vec<u32>, AllocError>
+pub(crate) fn interrupting(alloc: Global, looks: &[Look]) -> Result<Vec<u32>, AllocError>
     ensures { IfOk result (λ v. (j : Job) → AreLooks j looks.now
         → AreReached j (places_of_looks looks.now) → AreAddressesOf noted.interrupts j v.items) }
 {
@@ -153,7 +153,7 @@ fn interrupting(alloc: Global, looks: &[Look]) -> Result<Vec<u32>, AllocError>
 
 /// The addresses of the reachable No Operations and Recalibrates with chain data on.
 #[tactic(auto, using(crate::proofs::Noted::addresses_none))]
-fn ending(alloc: Global, looks: &[Look]) -> Result<Vec<u32>, AllocError>
+pub(crate) fn ending(alloc: Global, looks: &[Look]) -> Result<Vec<u32>, AllocError>
     ensures { IfOk result (λ v. (j : Job) → AreLooks j looks.now
         → AreReached j (places_of_looks looks.now) → AreAddressesOf noted.ends_there j v.items) }
 {
