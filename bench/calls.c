@@ -29,8 +29,8 @@ enum { AREAS = 200000, STACK = 1 << 20, UNTOUCHED = 0xA5 };
 
 static uint8_t storage[16777216];
 static uint8_t stack[STACK] __attribute__((aligned(4096)));
-static struct chanv_extent cylinders[] = {{10, 19}}, seek_cylinders[203];
-static struct chanv_area fetch[1], store[AREAS], needed_lists[3][MOST_PLACES];
+static struct chanv_extent cylinders[] = {{10, 19}};
+static struct chanv_area fetch[1], store[AREAS];
 static struct chanv_place places[MOST_THREADS][MOST_PLACES], second_places[MOST_PLACES];
 
 /* ---- the memory that is held, and the growths */
@@ -186,14 +186,7 @@ static uint32_t text(const struct work *work)
 }
 
 static struct chanv_needed needed;
-static uint8_t kept[1 << 20], memory[16 << 20];
-
-static uint32_t what_is_needed(const struct work *work)
-{
-    return chanv_needs(work->job, &needed, seek_cylinders, 203, needed_lists[0], MOST_PLACES,
-                       needed_lists[1], MOST_PLACES, needed_lists[2], MOST_PLACES, kept,
-                       sizeof kept);
-}
+static uint8_t memory[16 << 20];
 
 static uint32_t take_in(const struct work *work)
 {
@@ -236,8 +229,8 @@ static const struct call {
     uint32_t (*make)(const struct work *work);
 } calls[] = {
     {"verify", verify},        {"list", list},         {"why", why},
-    {"text", text},            {"needs", what_is_needed}, {"take in", take_in},
-    {"start", check_start},    {"write", check_write}, {"compare", compare},
+    {"text", text},     {"take in", take_in},  {"start", check_start},
+    {"write", check_write}, {"compare", compare},
 };
 
 enum { CALLS = sizeof calls / sizeof *calls };

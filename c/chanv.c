@@ -1,5 +1,6 @@
-/* The part of the library that isn't proved: words, memory for a copy of storage, and a call that
- * lays what `chanv_needs` lists into one piece of the caller's memory. It rests on proved calls. */
+/* The part of the library that isn't proved: words, rows that are no program, and the call that
+ * takes a program in. That call rests on a proved one, to which it lends memory for a copy of
+ * storage and for the lists, and lays what is listed into one piece of the caller's memory. */
 #include <chanv.h>
 #include <stdlib.h>
 #include <string.h>
@@ -51,7 +52,6 @@ const char *chanv_answer_word(uint32_t answer)
         [CHANV_EXTENT_PAST_DEVICE] = "extent-past-device",
         [CHANV_NOT_A_LIMIT] = "not-a-limit",
         [CHANV_NO_ROOM] = "no-room",
-        [CHANV_RESERVED_NOT_ZERO] = "reserved-not-zero",
         [CHANV_CHANGED_MEANWHILE] = "changed-meanwhile",
     };
     return WORD_OF(words, answer);
@@ -71,8 +71,7 @@ const char *chanv_refusal_word(uint32_t code)
         [CHANV_REFUSED_STORES_OVER_KEPT] = "stores-over-kept",
         [CHANV_REFUSED_KEEPS_STORED_OVER] = "keeps-stored-over",
         [CHANV_REFUSED_WRITES_OVER_KEPT] = "writes-over-kept",
-        [CHANV_REFUSED_RESERVED] = "reserved-not-zero",
-        [CHANV_REFUSED_RESERVED_IN_FLIGHT] = "reserved-in-flight",
+        [CHANV_REFUSED_KEEPS_OUTSIDE] = "keeps-outside",
     };
     return WORD_OF(words, code);
 }
@@ -90,11 +89,26 @@ const char *chanv_entered_word(uint32_t entered)
 
 int chanv_is_fault(uint32_t answer)
 {
-    return (answer >= CHANV_STORAGE_TOO_LARGE && answer <= CHANV_NOT_A_LIMIT)
-           || answer == CHANV_RESERVED_NOT_ZERO;
+    return answer >= CHANV_STORAGE_TOO_LARGE && answer <= CHANV_NOT_A_LIMIT;
 }
 
-/* ---- needs */
+/* ---- rows that are no program */
+
+void chanv_row_storing(const struct chanv_area *area, struct chanv_program *row)
+{
+    memset(row, 0, sizeof *row);
+    row->rows.store.at = area;
+    row->rows.store.len = 1;
+}
+
+void chanv_row_keeping(const struct chanv_area *area, struct chanv_program *row)
+{
+    memset(row, 0, sizeof *row);
+    row->rows.keep.at = area;
+    row->rows.keep.len = 1;
+}
+
+/* ---- taking a program in */
 
 /* The proved call: it writes to the copy only what the program keeps, and judges the copy. */
 enum chanv_answer needs_by_copy(const struct chanv_job *job, uint8_t *copy, size_t copy_len,
@@ -106,50 +120,16 @@ enum chanv_answer needs_by_copy(const struct chanv_job *job, uint8_t *copy, size
 
 enum { LARGEST_STORAGE = 16777216 };
 
-/* Writes the bytes between the fields of an answer, which belong to none. */
-static void clear_gap(struct chanv_needed *out)
-{
-    size_t from = offsetof(struct chanv_needed, hangs_entered) + sizeof out->hangs_entered;
-    memset((uint8_t *)out + from, 0, offsetof(struct chanv_needed, reserved) - from);
-}
-
-/* The copy is as long as storage, and what it holds doesn't matter: so it isn't zeroed, and only
- * the few pages that are written cost anything. If there is no memory, the copy has no bytes, and
- * the proved call returns CHANV_MEMORY, unless the job has a fault that comes first. */
-enum chanv_answer chanv_needs(const struct chanv_job *job, struct chanv_needed *out,
-                              struct chanv_extent *extents, size_t extents_room,
-                              struct chanv_area *fetch, size_t fetch_room,
-                              struct chanv_area *store, size_t store_room,
-                              struct chanv_area *keep, size_t keep_room,
-                              uint8_t *kept, size_t kept_room)
-{
-    uint8_t none;
-    size_t len = job->storage.len;
-    uint8_t *made = len == 0 || len > LARGEST_STORAGE ? NULL : malloc(len);
-    enum chanv_answer answer =
-        needs_by_copy(job, made == NULL ? &none : made, made == NULL ? 0 : len, out, extents,
-                      extents_room, fetch, fetch_room, store, store_room, keep, keep_room, kept,
-                      kept_room);
-    free(made);
-    clear_gap(out);
-    return answer;
-}
-
-/* ---- taking a program in */
-
-/* How many bytes at the front of the memory may be left free, so that areas are aligned. */
-enum { MOST_PADDING = sizeof(uint32_t) - 1 };
-
 /* Where each list begins, in bytes from the front of the memory: areas, which are aligned most,
  * then extents, then the kept bytes. The counts are those of a `struct chanv_needed`. */
 struct layout {
     size_t fetch, store, keep, extents, kept, end;
 };
 
-static struct layout layout_of(const void *memory, const struct chanv_needed *counts)
+static struct layout layout_of(size_t front, const struct chanv_needed *counts)
 {
     struct layout at;
-    at.fetch = -(uintptr_t)memory % sizeof(uint32_t);
+    at.fetch = front;
     at.store = at.fetch + counts->fetch_count * sizeof(struct chanv_area);
     at.keep = at.store + counts->store_count * sizeof(struct chanv_area);
     at.extents = at.keep + counts->keep_count * sizeof(struct chanv_area);
@@ -158,42 +138,16 @@ static struct layout layout_of(const void *memory, const struct chanv_needed *co
     return at;
 }
 
-/* How many bytes the lists take at any address: it counts all padding, though less may be used. */
-static size_t total_of(const struct chanv_needed *counts)
+/* The longest lists that a program of so many places has: a place fetches or stores one area, keeps
+ * its CCW and at most six bytes of an argument, and seeks one cylinder of 203, of which every other
+ * begins a row. */
+static struct chanv_needed most_of(size_t places)
 {
-    struct layout from_start = layout_of(NULL, counts);
-    return from_start.end + MOST_PADDING;
-}
-
-/* Gives each list an equal share of the room. */
-static struct chanv_needed shares_of(size_t room)
-{
-    struct chanv_needed counts = {.kept_len = 0};
-    size_t share = room < MOST_PADDING ? 0 : (room - MOST_PADDING) / 5;
-    counts.fetch_count = counts.store_count = counts.keep_count = share / sizeof(struct chanv_area);
-    counts.extent_count = share / sizeof(struct chanv_extent);
-    counts.kept_len = share;
-    return counts;
-}
-
-static enum chanv_answer ask_into(uint8_t *memory, const struct chanv_needed *rooms,
-                                  const struct chanv_job *job, struct chanv_needed *out)
-{
-    struct layout at = layout_of(memory, rooms);
-    return chanv_needs(job, out, (void *)(memory + at.extents), rooms->extent_count,
-                       (void *)(memory + at.fetch), rooms->fetch_count,
-                       (void *)(memory + at.store), rooms->store_count,
-                       (void *)(memory + at.keep), rooms->keep_count, memory + at.kept,
-                       rooms->kept_len);
-}
-
-/* Moves the lists down, so that there is no room between them. */
-static void close_up(uint8_t *memory, const struct layout *from, const struct layout *to)
-{
-    memmove(memory + to->store, memory + from->store, to->keep - to->store);
-    memmove(memory + to->keep, memory + from->keep, to->extents - to->keep);
-    memmove(memory + to->extents, memory + from->extents, to->kept - to->extents);
-    memmove(memory + to->kept, memory + from->kept, to->end - to->kept);
+    struct chanv_needed most = {.fetch_count = places, .store_count = places};
+    most.keep_count = 2 * places;
+    most.extent_count = places < 102 ? places : 102;
+    most.kept_len = 14 * places;
+    return most;
 }
 
 /* Fills a program of zeros field by field, so that the bytes between its fields stay 0. */
@@ -217,29 +171,70 @@ static void remember(struct chanv_program *program, const uint8_t *memory, const
     program->device = job->device;
 }
 
-/* Asks once if the memory is ample, and otherwise a second time with just the room that the first
- * answer names. If that room is too small then, the program has changed in between. */
+/* Moves the lists from the room in which they were made to the caller's memory, without gaps. */
+static void move_lists(uint8_t *to, const struct layout *at, const uint8_t *from,
+                       const struct layout *made)
+{
+    memcpy(to + at->fetch, from + made->fetch, at->store - at->fetch);
+    memcpy(to + at->store, from + made->store, at->keep - at->store);
+    memcpy(to + at->keep, from + made->keep, at->extents - at->keep);
+    memcpy(to + at->extents, from + made->extents, at->kept - at->extents);
+    memcpy(to + at->kept, from + made->kept, at->end - at->kept);
+}
+
+static enum chanv_answer ask_into(uint8_t *lent, const struct chanv_needed *rooms, size_t copy_len,
+                                  const struct chanv_job *job, struct chanv_needed *needed)
+{
+    struct layout at = layout_of(0, rooms);
+    return needs_by_copy(job, lent + at.end, copy_len, needed, (void *)(lent + at.extents),
+                         rooms->extent_count, (void *)(lent + at.fetch), rooms->fetch_count,
+                         (void *)(lent + at.store), rooms->store_count,
+                         (void *)(lent + at.keep), rooms->keep_count, lent + at.kept,
+                         rooms->kept_len);
+}
+
+/* How many bytes may be left free at the front of the caller's memory, to align areas. */
+enum { MOST_PADDING = sizeof(uint32_t) - 1 };
+
+/* Hands the lists over in the caller's memory. A program takes as many bytes at each address: all
+ * padding is counted, though less may be used. */
+static enum chanv_answer hand_over(const struct chanv_job *job, const struct chanv_needed *needed,
+                                   const uint8_t *lent, const struct layout *made, uint8_t *memory,
+                                   size_t room, size_t *len, struct chanv_program *program)
+{
+    size_t front = -(uintptr_t)memory % sizeof(uint32_t);
+    struct layout at = layout_of(front, needed);
+    *len = at.end - front + MOST_PADDING;
+    if (*len > room)
+        return CHANV_NO_ROOM;
+    move_lists(memory, &at, lent, made);
+    remember(program, memory, &at, job, needed);
+    return CHANV_OK;
+}
+
+/* What the lent memory holds doesn't matter, so it isn't zeroed, and only the few pages that are
+ * written cost anything. If there is none, the copy has no bytes, and the proved call returns
+ * CHANV_MEMORY, unless the job has a fault that comes first. */
 enum chanv_answer chanv_take_in(const struct chanv_job *job, void *memory, size_t room, size_t *len,
                                 struct chanv_program *program, struct chanv_needed *out)
 {
-    static uint32_t none; /* to point to if there is no memory, or less than the padding */
-    uint8_t *bytes = room < MOST_PADDING ? (uint8_t *)&none : memory;
-    struct chanv_needed rooms = shares_of(room);
-    enum chanv_answer answer = ask_into(bytes, &rooms, job, out);
-    if (answer == CHANV_NO_ROOM && total_of(out) <= room) {
-        rooms = *out;
-        answer = ask_into(bytes, &rooms, job, out);
-        if (answer == CHANV_NO_ROOM) {
-            memset(out, 0, sizeof *out);
-            answer = CHANV_CHANGED_MEANWHILE;
-        }
+    static uint32_t none;
+    struct chanv_needed unread, *needed = out != NULL ? out : &unread;
+    size_t uncounted, *count = len != NULL ? len : &uncounted;
+    size_t copy_len = job->storage.len <= LARGEST_STORAGE ? job->storage.len : 0;
+    struct chanv_needed rooms = most_of(job->limit <= CHANV_LARGEST_LIMIT ? job->limit : 0);
+    struct layout made = layout_of(0, &rooms);
+    uint8_t *lent = malloc(made.end + copy_len);
+    if (lent == NULL) {
+        rooms = most_of(0);
+        copy_len = 0;
     }
-    *len = answer == CHANV_OK || answer == CHANV_NO_ROOM ? total_of(out) : 0;
+    enum chanv_answer answer =
+        ask_into(lent != NULL ? lent : (uint8_t *)&none, &rooms, copy_len, job, needed);
     memset(program, 0, sizeof *program);
-    if (answer != CHANV_OK)
-        return answer;
-    struct layout from = layout_of(bytes, &rooms), to = layout_of(bytes, out);
-    close_up(bytes, &from, &to);
-    remember(program, bytes, &to, job, out);
-    return CHANV_OK;
+    *count = 0;
+    if (answer == CHANV_OK)
+        answer = hand_over(job, needed, lent, &made, memory, room, count, program);
+    free(lent);
+    return answer;
 }

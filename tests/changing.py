@@ -7,7 +7,8 @@ is remembered has to be what quiet storage gives. A call that says that storage 
 nothing; it never comes over quiet storage, and some store brings it about. Each allocation refused
 gives CHANV_MEMORY, and nothing is written. And a start is asked about while a program in the table
 stores: into other bytes, which never matters, and over the new program, which always does. With
-just enough memory the call asks twice: what it leaves behind is looked at for each store.
+just enough memory for the one program, what the call leaves behind is looked at for each store of
+the other.
 """
 
 import re
@@ -44,7 +45,7 @@ def check_size(checks, places, rounds, ran):
     checks.expect_that(f"starts of {name}", starts in ran.output, ran)
     [counts] = re.findall(ROOM_LINE, ran.output) or [()]
     is_so = counts != () and all(int(count) > 0 for count in counts)
-    checks.expect_that("each answer of a call that asks twice leaves what it should", is_so, ran)
+    checks.expect_that("each answer of a call with just enough memory", is_so, ran)
 
 
 def check(checks, built):

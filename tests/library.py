@@ -24,7 +24,8 @@ TESTS = ("one_call", "bytes", *LINED)
 SOURCES = [EXAMPLES / "c/ask.c", *[HERE / f"c/{name}.c" for name in TESTS]]
 MAY_ASK_FOR = {"memcpy", "memmove", "memset", "malloc", "realloc", "free"}
 OF_THE_RUNTIME = {"rattle_alloc", "rattle_realloc", "rattle_dealloc"}
-NAMES = "verify list why text open_text needs take_in check_start check_write find version".split()
+NAMES = "verify list why text take_in check_start check_write check_kept find version".split()
+NAMES += "row_storing row_keeping".split()
 NAMES += "is_fault reason_word answer_word refusal_word entered_word".split()
 CALLS = {f"chanv_{name}" for name in NAMES}
 LAYOUT = ROOT / "crates/chanv_c/include/layout.txt"
@@ -135,11 +136,10 @@ RIGHT = [
     "chanv_list(&job, NULL, 0, &len, &len)",
     "chanv_why(&job, NULL, 0, NULL, 0, &why)",
     "chanv_text(&job, NULL, 0, &len)",
-    "chanv_open_text(&job, NULL, 0, &len)",
-    "chanv_needs(&job, &told, NULL, 0, NULL, 0, NULL, 0, NULL, 0, NULL, 0)",
-    "chanv_take_in(&job, NULL, 0, &len, &it, &told)",
+    "chanv_take_in(&job, NULL, 0, NULL, &it, NULL)",
     "chanv_check_start(&job, NULL, 0, &it, &no)",
     "chanv_check_write(NULL, 0, &area, &no)",
+    "chanv_check_kept(&it, NULL, 0, &no)",
     "chanv_find(&job.storage, 2314, NULL, 0, &len)",
 ]
 ASKING = """#include <chanv.h>
@@ -148,10 +148,9 @@ int ask(struct chanv_job job, struct chanv_area area, struct chanv_program it)
 {{
     struct chanv_verdict verdict = {{0, 0, 0}};
     struct chanv_refusal no;
-    struct chanv_needed told;
     struct chanv_explanation why;
     size_t len = 0;
-    (void)job, (void)area, (void)it, (void)no, (void)told, (void)why, (void)len, (void)verdict;
+    (void)job, (void)area, (void)it, (void)no, (void)why, (void)len, (void)verdict;
     return {};
 }}
 """
@@ -214,8 +213,8 @@ def check_hardening(checks, library):
 
 def refuse_growths(checks, folder):
     growths, program = Growths(folder), folder / "one_call"
-    answers = {"verify": "yes", "list": "3", "why": "2 3", "needs": "1 1 1", "take_in": "yes"}
-    answers |= {"check_start": "yes", "find": "1", "text": "no", "open_text": "no"}
+    answers = {"verify": "yes", "list": "3", "why": "2 3", "take_in": "yes"}
+    answers |= {"check_start": "yes", "check_kept": "yes", "find": "1", "text": "no"}
     setup = [program, "setup"]
     for call, answer in answers.items():
         case = Case(f"chanv_{call}", [program, call], Ran(0, f"{answer}\n"), before=setup)

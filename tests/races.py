@@ -6,7 +6,7 @@ calls run at a time, each in a process of its own. A call has to return, may wri
 that it was handed for that, and has to answer with one of its codes: yes, no, too many places or
 too little room, because the job itself is right. Which of them come is left to chance, except in a
 run of 20 seconds or more: there each has to come. `chanv_check_write` doesn't look at storage, and
-always answers yes. `chanv_needs` and `chanv_take_in` may also answer that storage changed.
+always answers yes. `chanv_take_in` may also answer that storage changed.
 `ask` of examples/c/emulator.c has to give an answer that holds: over any storage with the kept
 bytes the program may start exactly if the verdict there is yes.
 """
@@ -32,8 +32,7 @@ CODES = {
     "list": {0, 2, 11},
     "why": {0, 1, 2, 11},
     "text": {0, 1, 2, 11},
-    "needs": {0, 1, 2, 11, 13},
-    "take_in": {0, 1, 2, 11, 13},
+    "take_in": {0, 1, 2, 11, 12},
     "check_start": {0, 1},
     "check_write": {0},
     "emulator": {0, 1, 2},
@@ -44,7 +43,7 @@ def check_call(checks, call, seconds, ran):
     ended = ran.status == 0 and not ran.error
     checks.expect_that(f"{call} while storage changes, for {seconds} s", ended, ran)
     codes = {int(code) for code in re.findall(r", \d+ times (\d+)", ran.output)}
-    rare = {13} if call == "emulator" else set()
+    rare = {12} if call == "emulator" else set()
     are_right = codes - rare == CODES[call] if seconds >= LONG else codes - rare <= CODES[call]
     checks.expect_that(f"the codes of {call} while storage changes", are_right, codes)
 

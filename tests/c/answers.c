@@ -13,7 +13,8 @@ static uint8_t storage[STORAGE];
 static uint8_t memory[MOST_BYTES];
 static struct asked asked;
 static const struct chanv_extent cylinders = {0, 202};
-static const struct chanv_area all = {0, STORAGE};
+static const struct chanv_area all = {0, STORAGE}, late = {START + 8, STORAGE};
+static const struct chanv_area prefixes = {0x3F00, 0x100};
 
 /* A job that lends everything to some CCWs, chained by command, whose data are 16 bytes apart. */
 static struct chanv_job job_of(uint8_t code, uint32_t count)
@@ -70,6 +71,39 @@ static void try_other_device(uint16_t device, uint16_t other)
     leave(0);
 }
 
+/* A program whose first CCW isn't in its user's storage, and one that asks for an interruption. */
+static void try_refused(void)
+{
+    struct chanv_job job = job_of(READ, 2);
+    own.at = &late;
+    take_in_and_start("outside its own storage", &job);
+    own.at = &all;
+    storage[START + 12] |= 0x08;
+    take_in_and_start("an interruption", &job);
+    takes_interrupting = 1;
+    take_in_and_start("an interruption", &job);
+    takes_interrupting = 0;
+}
+
+/* The prefix of a program under the mask 80, from cylinder 10 on: its bytes, and the verdict on both
+ * as one program, which begins with mask 00. No program that stores over it starts. */
+static void try_prefix(void)
+{
+    static const struct chanv_extent some = {10, 19};
+    struct chanv_job job = job_of(READ, 2), whole;
+    struct chanv_verdict verdict;
+    job.extents.at = &some, job.mask = 0x80;
+    make_prefix(storage + prefixes.start, prefixes.start, &job);
+    for (int i = 0; i < PREFIX_BYTES; i++)
+        printf("%s%02X", i == 0 ? "prefix " : i % 8 == 0 ? " " : "", storage[prefixes.start + i]);
+    whole = job, whole.start = prefixes.start, whole.mask = 0x00;
+    printf(": %s\n", chanv_answer_word(chanv_verify(&whole, &verdict)));
+    storage[START + 8 + 2] = 0x3F, storage[START + 8 + 3] = 0x18;
+    take_in_and_start("over the prefixes", &job);
+    storage[START + 8 + 3] = 0xFF, storage[START + 8 + 2] = 0x3E, storage[START + 8 + 7] = 1;
+    take_in_and_start("just before the prefixes", &job);
+}
+
 /* A search that never ends by itself: it is taken in only if the supervisor says so. */
 static void try_hanging(void)
 {
@@ -82,9 +116,11 @@ static void try_hanging(void)
     takes_hanging = 0;
 }
 
-static void try_emulated(const char *name, uint8_t code, uint32_t count)
+/* With these flags of its first CCW on. */
+static void try_emulated(const char *name, uint8_t code, uint32_t count, uint8_t flags)
 {
     struct chanv_job job = job_of(code, count);
+    storage[START + 4] |= flags;
     memset(&asked, 0xFF, sizeof asked);
     uint32_t answer = ask(&asked, &job);
     const char *there = may_begin(&asked, &job) ? "there" : "not there";
@@ -112,6 +148,8 @@ static void try_writes(void)
 
 int main(void)
 {
+    own = (struct chanv_areas){&all, 1};
+    guard_prefixes(&prefixes);
     try_program("2 rows", READ, 2);
     try_program("127 rows", READ, 127);
     try_program("128 rows", READ, 128);
@@ -121,8 +159,11 @@ int main(void)
     try_other_device(2311, 2314);
     try_other_device(2314, 2311);
     try_hanging();
-    try_emulated("2 rows", READ, 2);
-    try_emulated("a code of no command", 0xFF, 1);
+    try_refused();
+    try_prefix();
+    try_emulated("2 rows", READ, 2, 0);
+    try_emulated("a code of no command", 0xFF, 1, 0);
+    try_emulated("chain data where nothing moves", NO_OPERATION, 2, 0x80);
     try_writes();
     return 0;
 }

@@ -77,7 +77,6 @@ static inline const char *take_fault_away(int step, struct chanv_job *job)
     case 0:
         *job = good, job->storage.len = 16777217, job->extents = (struct chanv_extents){NULL, 0};
         job->limit = 0, job->device = 3330, job->mask = 0x01;
-        job->reserved[3] = (uint64_t)1 << 63;
         return "all faults";
     case 1: return job->storage.len--, "storage of 16 MiB";
     case 2: return job->device = 2314, "a device";
@@ -86,7 +85,7 @@ static inline const char *take_fault_away(int step, struct chanv_job *job)
     case 5: return job->extents = (struct chanv_extents){past, 4}, "extents, past the device first";
     case 6: return job->extents.len = 2, "right extents";
     case 7: return job->limit = CHANV_LARGEST_LIMIT + 1, "a limit that is too large";
-    case 8: return job->limit = CHANV_LARGEST_LIMIT, "a limit, and what is reserved";
+    case 8: return job->limit = CHANV_LARGEST_LIMIT, "no fault";
     default: return NULL;
     }
 }

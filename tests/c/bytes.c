@@ -3,22 +3,22 @@
  * byte. It prints a line for each byte between fields that isn't 0. */
 #include "asking.h"
 
-/* Bytes between two fields, or after the last. */
+/* Bytes that belong to no field. */
 struct gap {
     size_t from, past;
 };
 
 #define PAST(type, field) (offsetof(struct type, field) + sizeof((struct type *)NULL)->field)
-#define BETWEEN(type, field, next) {PAST(type, field), offsetof(struct type, next)}
 
-static const struct gap of_needed[] = {BETWEEN(chanv_needed, hangs_entered, reserved)};
-static const struct gap of_program[] = {BETWEEN(chanv_program, device, reserved),
+static const struct gap of_needed[] = {
+    {PAST(chanv_needed, hangs_entered), sizeof(struct chanv_needed)}};
+static const struct gap of_program[] = {{PAST(chanv_program, device), sizeof(struct chanv_program)},
                                         {PAST(chanv_rows, mask), sizeof(struct chanv_rows)}};
 
-/* from the evidence's last byte to what is reserved */
+/* after the evidence's last byte */
 static const struct gap of_explanation[] = {
     {offsetof(struct chanv_explanation, evidence) + PAST(chanv_evidence, mask),
-     offsetof(struct chanv_explanation, reserved)}};
+     sizeof(struct chanv_explanation)}};
 static const struct gap of_place[] = {
     {PAST(chanv_place, after_transfer), sizeof(struct chanv_place)}};
 
@@ -39,17 +39,6 @@ static void look(const char *name, const void *answer, const struct gap *gaps, s
 }
 
 #define LOOK(name, answer, gaps) look(name, answer, gaps, sizeof gaps / sizeof *gaps)
-
-static void ask_needs(const char *name, const struct chanv_job *job, uint8_t byte)
-{
-    struct chanv_needed needed;
-    memset(&needed, byte, sizeof needed);
-    paint_stack(byte);
-    enum chanv_answer answer =
-        chanv_needs(job, &needed, NULL, 0, NULL, 0, NULL, 0, NULL, 0, NULL, 0);
-    printf("%s: needs %u\n", name, answer);
-    LOOK(name, &needed, of_needed);
-}
 
 static void take_in(const char *name, const struct chanv_job *job, size_t room, uint8_t byte)
 {
@@ -96,7 +85,6 @@ int main(void)
     for (size_t i = 0; i < sizeof fills; i++) {
         struct chanv_job job = generous();
         fill(search_loop);
-        ask_needs("the search loop", &job, fills[i]);
         take_in("with much room", &job, 512, fills[i]);
         take_in("with just enough room", &job, 51, fills[i]);
         take_in("with too little room", &job, 50, fills[i]);
@@ -105,7 +93,7 @@ int main(void)
         job.store.len = 0;
         ask_why("nothing lent for storing", &job, fills[i]);
         job.start = 0x804;
-        ask_needs("a misaligned start", &job, fills[i]);
+        take_in("a misaligned start", &job, 512, fills[i]);
         job.device = 3330;
         take_in("no device", &job, 512, fills[i]);
     }

@@ -16,8 +16,8 @@
  *              then that allocation is refused
  *     start    the program is taken in while storage is quiet, and `chanv_check_start` is asked
  *              while a program in the table stores: into other bytes, and over the new program
- *     room     there is just enough memory for A, so the call asks twice, and B needs more: it is
- *              stored at each allocation of the call in turn
+ *     room     there is just enough memory for A, and B needs more: it is stored at each allocation
+ *              of the call in turn
  *
  * A line for each mode says what came of its rounds. The status is 1 if a program that was never
  * judged started, if needs were wrong, or if a refused allocation or a change left anything behind;
@@ -322,8 +322,8 @@ static int try_room(void)
     put_word(a), grown = 0;
     if (chanv_take_in(&job, NULL, 0, &just, &program, &needed) != CHANV_NO_ROOM)
         exit(2);
-    /* each of the two questions makes so many allocations, and at last B doesn't come */
-    for (long growths = 2 * grown, growth = 1; growth <= growths + 1; growth++) {
+    /* at last B doesn't come */
+    for (long growths = grown, growth = 1; growth <= growths + 1; growth++) {
         put_word(a), grown = 0, stored_at = growth;
         memset(memory, UNTOUCHED, just), memset(&program, UNTOUCHED, sizeof program);
         memset(&needed, UNTOUCHED, sizeof needed), len = UNTOUCHED;

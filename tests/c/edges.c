@@ -39,10 +39,7 @@ static uint32_t why(struct chanv_job job, struct chanv_place *path, size_t room,
 static int is_empty(const struct chanv_explanation *told)
 {
     static const struct chanv_evidence no_values;
-    for (size_t i = 0; i < sizeof told->reserved / sizeof *told->reserved; i++)
-        if (told->reserved[i] != 0)
-            return 0;
-    return told->path_count == 0 && told->second_path_count == 0 && told->verdict.address == 0
+    return told->unused == 0 && told->path_count == 0 && told->second_path_count == 0 && told->verdict.address == 0
            && told->verdict.reason == 0
            && memcmp(&told->evidence, &no_values, offsetof(struct chanv_evidence, mask) + 1) == 0;
 }
@@ -229,13 +226,6 @@ static void ask_with_faults(void)
     const char *name;
     for (int step = 0; (name = take_fault_away(step, &job)) != NULL; step++)
         ask(name, job);
-    for (int i = 0; i < 4; i++) {
-        memset(job.reserved, 0, sizeof job.reserved);
-        job.reserved[i] = 1;
-        ask("one reserved word", job);
-    }
-    memset(job.reserved, 0, sizeof job.reserved);
-    ask("no fault", job);
 }
 
 static void list_with_little_room(void)
@@ -315,7 +305,7 @@ int main(void)
     ask_at_the_limits();
     for (uint32_t reason = 0; reason < 18; reason++)
         printf("reason %" PRIu32 ": %s\n", reason, chanv_reason_word(reason));
-    for (uint32_t number = 0; number < 15; number++)
+    for (uint32_t number = 0; number < 14; number++)
         printf("number %" PRIu32 ": %s%s, %s, %s\n", number, chanv_answer_word(number),
                chanv_is_fault(number) ? " (a fault)" : "", chanv_refusal_word(number),
                chanv_entered_word(number));

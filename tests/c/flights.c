@@ -6,9 +6,19 @@ enum { PROGRAMS = 12 };
 static struct taken programs[PROGRAMS];
 static uint8_t memory[PROGRAMS][MOST_BYTES];
 
+/* The machine itself stores into the 32 bytes from 000240 on, and prefixes stand in those from 0005C0
+ * on. Users own the rest. */
+void flights_begin(void)
+{
+    static const struct chanv_area users[] = {{0, 0x240}, {0x260, 0x360}, {0x5E0, 0x220}};
+    static const struct chanv_area prefixes = {0x5C0, 0x20};
+    own = (struct chanv_areas){users, 3};
+    guard_prefixes(&prefixes);
+}
+
 uint32_t flights_take_in(int number, const struct chanv_job *job)
 {
-    takes_hanging = 1;
+    takes_hanging = takes_interrupting = 1;
     programs[number].memory = memory[number];
     return take_in(&programs[number], job);
 }
@@ -18,8 +28,11 @@ const struct chanv_program *flights_program(int number)
     return &programs[number].program;
 }
 
+/* The channel begins with the prefix; the model begins behind it, as premise 2 has it. */
 int flights_start(int number, int unit, const struct chanv_job *job)
 {
+    uint8_t prefix[PREFIX_BYTES];
+    make_prefix(prefix, 0x5C0, job);
     return start(&programs[number], unit, job);
 }
 

@@ -1,6 +1,7 @@
 /* Tries examples/hercules/chanvask.h without Hercules, over random programs that are started again
  * and again while bytes of storage and storage keys change. Each answer has to be that of
- * chanv_verify about storage as it stands, with all blocks lent that the keys allow.
+ * chanv_verify about storage as it stands, with all blocks lent that the keys allow; but a program
+ * for which some job will do, and that ends though chain data is on, is refused where it first does.
  *
  *     hercules SEED STARTS
  */
@@ -130,10 +131,33 @@ static U32 asked_directly(const DEVBLK *dev, U32 start, struct chanv_verdict *ve
     return chanv_verify(&job, verdict);
 }
 
+/* The address of the first No Operation with chain data that the program comes to, if some job will
+ * do for it; else 0. Programs begin above 0. */
+static U32 stops_at(U32 start)
+{
+    static const struct chanv_extent disk = CHANV_ALL_CYLINDERS;
+    static const struct chanv_area all = CHANV_ALL_STORAGE;
+    static struct chanv_place places[CHANV_USUAL_LIMIT];
+    struct chanv_verdict verdict;
+    size_t count, extent;
+    const struct chanv_job job = {{storage, STORAGE}, {&disk, 1}, {&all, 1}, {&all, 1}, start,
+                                  CHANV_USUAL_LIMIT, 2314, CHANV_OPEN_MASK};
+
+    if (chanv_verify(&job, &verdict) != CHANV_YES
+        || chanv_list(&job, places, CHANV_USUAL_LIMIT, &count, &extent) != CHANV_OK)
+        return 0;
+    for (size_t i = 0; i < count; i++) {
+        const BYTE *ccw = storage + places[i].address;
+        if (places[i].entered == CHANV_ENTERED_FRESH && ccw[0] == 0x03 && ccw[4] & 0x80)
+            return places[i].address;
+    }
+    return 0;
+}
+
 int main(int argc, char **argv)
 {
     DEVBLK dev = {0x190, 0x2314, storage, keys, STORAGE - 1, {0, {0}}, NULL};
-    U32 starts[STARTS], yes = 0, count = argc > 2 ? (U32)atoi(argv[2]) : 0;
+    U32 starts[STARTS], yes = 0, stopped = 0, count = argc > 2 ? (U32)atoi(argv[2]) : 0;
 
     state = argc > 1 ? (U64)atoi(argv[1]) : 1;
     if (!chanvask_arg(&dev, "chanv=0-9,12-19") || !chanvask_arg(&dev, "chanvmask=80")
@@ -151,6 +175,11 @@ int main(int argc, char **argv)
             dev.orb.ccwaddr[byte] = (BYTE)(start >> (24 - 8 * byte));
         chanvask(&dev);
         answer = asked_directly(&dev, start, &verdict);
+        U32 stop = stops_at(start);
+        if (stop != 0) {
+            answer = CHANV_NO, verdict.address = stop;
+            stopped++;
+        }
         yes += answer == CHANV_YES;
         if (chanvask_refuses(&dev, &address) != (answer != CHANV_YES)
             || (answer == CHANV_NO && address != verdict.address + 8)) {
@@ -159,7 +188,8 @@ int main(int argc, char **argv)
             return 1;
         }
     }
-    printf("%u starts, %u yes, %u questions\n", count, yes, (unsigned)dev.chanvask->questions);
+    printf("%u starts, %u yes, %u stopped, %u questions\n", count, yes, stopped,
+           (unsigned)dev.chanvask->questions);
     chanvask_end(&dev);
     return 0;
 }

@@ -26,7 +26,7 @@ static void put_loop(uint32_t start, uint32_t buffer)
 }
 
 static const struct chanv_extent cylinders[] = {{10, 19}};
-static const struct chanv_area fetch[] = {{0x900, 0x10}}, store[] = {{0x800, 0x1000}};
+static const struct chanv_area fetch[] = {{0x900, 0x10}}, store[] = {{0x700, 0x1100}};
 static const uint32_t starts[PROGRAMS] = {0x800, 0x1000, 0x1100};
 
 static struct chanv_job job_at(uint32_t start)
@@ -81,15 +81,18 @@ void lock(void) {}
 
 void unlock(void) {}
 
-int position(int unit, const struct chanv_job *job)
+int start_io(int unit, const struct chanv_job *job)
 {
-    return unit < UNITS && job->device == 2314;
+    printf(" started at %06X on unit %d", job->start, unit);
+    return 1;
 }
 
-int start_io(int unit, uint32_t start)
+/* All but low storage. */
+struct chanv_areas user_storage(const struct chanv_job *job)
 {
-    printf(" started at %06X on unit %d", start, unit);
-    return 1;
+    static const struct chanv_area users = {0x100, 0x2000 - 0x100};
+    (void)job;
+    return (struct chanv_areas){&users, 1};
 }
 
 void write_storage(struct chanv_area area, const uint8_t *bytes)
@@ -105,10 +108,21 @@ static void check_input(const char *name, int row, const struct chanv_area *area
     printf("input into %s: %d\n", name, begin_input(row, area));
 }
 
+/* Takes a program in that begins with this CCW. */
+static void try_one(const char *name, uint32_t start, uint64_t ccw)
+{
+    put(start, ccw);
+    jobs[1] = job_at(start);
+    enum chanv_answer answer = take_in(&jobs[1], memory[1], ROOM, &programs[1]);
+    printf("taken in, %s: %s\n", name, chanv_answer_word(answer));
+}
+
 int main(void)
 {
+    static const struct chanv_area prefixes = {0x700, 0x100};
     static const struct chanv_area of_third = {0x1110, 0x10}, of_second = {0x1010, 0x10};
     struct chanv_refusal refusal;
+    guard_prefixes(&prefixes);
     put_loop(starts[0], 0xA00);
     put_loop(starts[1], 0x800);
     put_loop(starts[2], 0xB00);
@@ -117,27 +131,28 @@ int main(void)
         enum chanv_answer answer = take_in(&jobs[i], memory[i], ROOM, &programs[i]);
         printf("taken in at %06X: %s\n", starts[i], chanv_answer_word(answer));
     }
-    put(0x20, 0x0300000000000001);
-    jobs[1] = job_at(0x20);
-    enum chanv_answer low = take_in(&jobs[1], memory[1], ROOM, &programs[1]);
-    printf("taken in at 000020: %s, ", chanv_answer_word(low));
-    printf("keeps low storage: %d\n", keeps_low_storage(&programs[1]));
-    printf("keeps low storage at 000800: %d\n", keeps_low_storage(&programs[0]));
-    put(0x30, 0x0300000040000001);
-    put(0x38, 0x0800003000000000);
-    jobs[1] = job_at(0x30);
-    enum chanv_answer hangs = take_in(&jobs[1], memory[1], ROOM, &programs[1]);
-    printf("taken in at 000030, a loop: %s\n", chanv_answer_word(hangs));
+    try_one("in low storage", 0xF8, 0x0300000000000001);
+    try_one("just above", 0x100, 0x0300000000000001);
+    try_one("with an interruption", 0x100, 0x0300000008000001);
+    put(0x108, 0x0800010000000000);
+    try_one("a loop", 0x100, 0x0300000040000001);
     jobs[1] = job_at(starts[1]);
     if (take_in(&jobs[1], memory[1], ROOM, &programs[1]) != CHANV_OK)
         return 1;
     supervise();
     printf("\n");
-    check_input("a program in flight", UNITS, &of_third);
-    check_input("a program that isn't in flight", UNITS, &of_second);
+    check_input("a program in flight", PREFIXES + 1, &of_third);
+    check_input("a program that isn't in flight", PREFIXES + 1, &of_second);
     enum chanv_answer answer =
         chanv_check_start(&jobs[1], in_flight, ROWS, &programs[1], &refusal);
     const char *word = answer == CHANV_NO ? chanv_refusal_word(refusal.code) : "";
     printf("its start meanwhile: %s %s\n", chanv_answer_word(answer), word);
+    put_loop(starts[1], 0x7F8);
+    if (take_in(&jobs[1], memory[1], ROOM, &programs[1]) != CHANV_OK)
+        return 1;
+    memset(&in_flight[PREFIXES + 1], 0, sizeof *in_flight);
+    answer = chanv_check_start(&jobs[1], in_flight, ROWS, &programs[1], &refusal);
+    printf("its start over the prefixes: %s %s\n", chanv_answer_word(answer),
+           chanv_refusal_word(refusal.code));
     return 0;
 }

@@ -1,17 +1,16 @@
 /* Takes programs in that keep 8 bytes, 9 and so on up to 64, at each offset of the memory from 0 to
  * 15 and into each room up to what is needed, and far beyond. At each address the need is the same,
- * no byte is written before or after the room, and none at all unless the answer is CHANV_OK; then
- * the program is the one that `chanv_needs` lists. It prints a line for each number of kept bytes,
- * and one for each case that is wrong. */
+ * no byte is written but those of the program, and none at all unless the answer is CHANV_OK; then
+ * the program is the same as in ample room. It prints a line for each number of kept bytes, and one
+ * for each case that is wrong. */
 #include "asking.h"
 
 enum { SEEK = 0x07, SET_MASK = 0x1F, NO_OPERATION = 0x03, CHAIN = 0x40 };
-enum { ROOM = 8, OFFSETS = 16, MOST_KEPT = 64, BEYOND = 6 * MOST_KEPT };
+enum { OFFSETS = 16, MOST_KEPT = 64, BEYOND = 6 * MOST_KEPT };
 
-/* What `chanv_needs` lists. */
-static struct chanv_extent extents[ROOM];
-static struct chanv_area fetch[ROOM], store[ROOM], keep[ROOM];
-static uint8_t kept[MOST_KEPT];
+/* The program, as it is taken into ample room. */
+static struct chanv_program whole;
+static uint8_t ample[16 * MOST_KEPT] __attribute__((aligned(4)));
 
 static struct handed memory;
 static int wrong;
@@ -62,36 +61,41 @@ static int is_same(const void *one, const void *other, size_t size)
     return size == 0 || memcmp(one, other, size) == 0;
 }
 
-/* Whether a list of the program has these rows, and lies in the first bytes of the memory. */
+/* Whether a list is the same as that of the whole program, and lies in the first bytes of the
+ * memory. */
 static int has(const uint8_t *at, size_t len, const void *list, const void *rows, size_t size)
 {
     const uint8_t *from = list;
     return is_same(list, rows, size) && (size == 0 || (from >= at && from + size <= at + len));
 }
 
-static int is_listed(const uint8_t *at, size_t len, const struct chanv_program *program,
-                     const struct chanv_needed *told)
+static int has_areas(const uint8_t *at, size_t len, struct chanv_areas areas,
+                     struct chanv_areas wanted)
 {
-    const struct chanv_rows *rows = &program->rows;
-    return rows->extents.len == told->extent_count && rows->fetch.len == told->fetch_count
-           && rows->store.len == told->store_count && rows->keep.len == told->keep_count
-           && program->kept.len == told->kept_len && rows->mask == told->mask
-           && rows->storage_len == told->storage_len
-           && has(at, len, rows->extents.at, extents, sizeof *extents * rows->extents.len)
-           && has(at, len, rows->fetch.at, fetch, sizeof *fetch * rows->fetch.len)
-           && has(at, len, rows->store.at, store, sizeof *store * rows->store.len)
-           && has(at, len, rows->keep.at, keep, sizeof *keep * rows->keep.len)
-           && has(at, len, program->kept.at, kept, program->kept.len);
+    return areas.len == wanted.len
+           && has(at, len, areas.at, wanted.at, sizeof *areas.at * areas.len);
+}
+
+static int is_whole(const uint8_t *at, size_t len, const struct chanv_program *program)
+{
+    const struct chanv_rows *rows = &program->rows, *wanted = &whole.rows;
+    return rows->extents.len == wanted->extents.len && program->kept.len == whole.kept.len
+           && rows->mask == wanted->mask && rows->storage_len == wanted->storage_len
+           && has(at, len, rows->extents.at, wanted->extents.at,
+                  sizeof *rows->extents.at * rows->extents.len)
+           && has_areas(at, len, rows->fetch, wanted->fetch)
+           && has_areas(at, len, rows->store, wanted->store)
+           && has_areas(at, len, rows->keep, wanted->keep)
+           && has(at, len, program->kept.at, whole.kept.at, program->kept.len);
 }
 
 /* One call: `need` is how much memory the program takes, or 0 if no job will do for it. */
-static void take_in(const struct chanv_job *job, const struct chanv_needed *told, size_t need,
-                    size_t offset, size_t room)
+static void take_in(const struct chanv_job *job, uint32_t bytes, size_t need, size_t offset,
+                    size_t room)
 {
     static const struct chanv_program none;
     struct chanv_program program;
     struct chanv_needed needed;
-    uint32_t bytes = (uint32_t)told->kept_len;
     size_t len = UNTOUCHED, fits = need != 0 && need <= room;
     uint8_t *at = (uint8_t *)hand(&memory) + offset;
     memset(&program, UNTOUCHED, sizeof program);
@@ -103,9 +107,9 @@ static void take_in(const struct chanv_job *job, const struct chanv_needed *told
     if (len != need)
         fail("another length", bytes, offset, room);
     if (!is_untouched(memory.bytes, at)
-        || !is_untouched(at + (fits ? room : 0), memory.bytes + sizeof memory.bytes))
-        fail("written beside the room", bytes, offset, room);
-    if (fits && (!is_listed(at, len, &program, told) || program.start != job->start
+        || !is_untouched(at + (fits ? need : 0), memory.bytes + sizeof memory.bytes))
+        fail("written beside the program", bytes, offset, room);
+    if (fits && (!is_whole(at, len, &program) || program.start != job->start
                  || program.device != job->device))
         fail("another program", bytes, offset, room);
     if (!fits && memcmp(&program, &none, sizeof none) != 0)
@@ -115,17 +119,16 @@ static void take_in(const struct chanv_job *job, const struct chanv_needed *told
 /* In each room at each offset. The padding of three bytes is always counted. */
 static void try_all(const struct chanv_job *job, uint32_t bytes, int is_no)
 {
-    struct chanv_needed told;
-    enum chanv_answer answer = chanv_needs(job, &told, extents, ROOM, fetch, ROOM, store, ROOM,
-                                           keep, ROOM, kept, sizeof kept);
-    size_t areas = told.fetch_count + told.store_count + told.keep_count;
-    size_t need = is_no ? 0 : 3 + 8 * areas + 4 * told.extent_count + told.kept_len;
-    if (answer != (is_no ? CHANV_NO : CHANV_OK) || told.kept_len != bytes)
+    const struct chanv_rows *rows = &whole.rows;
+    enum chanv_answer answer = chanv_take_in(job, ample, sizeof ample, NULL, &whole, NULL);
+    size_t areas = rows->fetch.len + rows->store.len + rows->keep.len;
+    size_t need = is_no ? 0 : 3 + 8 * areas + 4 * rows->extents.len + whole.kept.len;
+    if (answer != (is_no ? CHANV_NO : CHANV_OK) || whole.kept.len != bytes)
         fail("not the program that was wanted", bytes, 0, 0);
     size_t most = need > BEYOND ? need : BEYOND;
     for (size_t offset = 0; offset < OFFSETS; offset++)
         for (size_t room = 0; room <= most + 8; room++)
-            take_in(job, &told, need, offset, room);
+            take_in(job, bytes, need, offset, room);
 }
 
 int main(void)

@@ -1,10 +1,10 @@
-/* Asks what programs need, and then about starts and writes, at the edges: exact room and one row
- * less in each list, NULL for empty lists, no job that will do, a limit that only the open job
+/* Asks what programs need, and then about starts, writes and what is kept, at the edges: exact room
+ * and one byte less, NULL for empty lists, no job that will do, a limit that only the open job
  * passes, each fault of a job, each refusal, rows from anywhere. Each line is the name of a case,
  * the call's code, and what it told. */
 #include "asking.h"
 
-enum { ROOM = 4, BYTES = 64 };
+enum { BYTES = 512 };
 
 static struct chanv_extent one_cylinder[] = {{100, 100}};
 
@@ -57,139 +57,101 @@ static const struct word sets_no_mask[] = {
     {0, 0},
 };
 
-/* How many rows there are in each list, and how many bytes are kept; or how much room there is. */
-struct counts {
-    size_t extents, fetch, store, keep, kept;
+/* Asks for an interruption where it reads, and in a transfer, whose flags mean nothing. */
+static const struct word interrupting[] = {
+    {0x800, 0x3100090040000005},
+    {0x808, 0x0800080008000000},
+    {0x810, 0x06000A0008000050},
+    {0, 0},
 };
 
-static struct chanv_extent extents[ROOM];
-static struct chanv_area fetch[ROOM], store[ROOM], keep[ROOM];
-static uint8_t kept[BYTES];
+/* A Recalibrate and a No Operation with chain data on: the program ends at the first. */
+static const struct word chaining[] = {
+    {0x800, 0x13000000C0000001},
+    {0x808, 0x0300000080000001},
+    {0, 0},
+};
 
-/* Whether the bytes from a row on are as they were before the call. */
-static int are_left(const void *list, size_t all, size_t size, size_t rows)
+static void print_areas(const char *name, struct chanv_areas areas)
 {
-    const uint8_t *bytes = list;
-    for (size_t i = size * rows; i < all; i++)
-        if (bytes[i] != 0x77)
-            return 0;
-    return 1;
+    for (size_t i = 0; i < areas.len; i++)
+        printf(", %s %06" PRIX32 " %" PRIX32, name, areas.at[i].start, areas.at[i].len);
 }
 
-static void print_areas(const char *name, const struct chanv_area *areas, size_t count)
+static void print_program(const struct chanv_program *program)
 {
-    for (size_t i = 0; i < count; i++)
-        printf(", %s %06" PRIX32 " %" PRIX32, name, areas[i].start, areas[i].len);
-}
-
-static void print_rows(const struct chanv_needed *told)
-{
-    const uint8_t *byte = kept;
-    for (size_t i = 0; i < told->extent_count; i++)
-        printf(", extent %u %u", extents[i].first, extents[i].last);
-    print_areas("fetch", fetch, told->fetch_count);
-    print_areas("store", store, told->store_count);
-    print_areas("keep", keep, told->keep_count);
-    for (size_t i = 0; i < told->keep_count; byte += keep[i++].len)
-        if (memcmp(byte, storage + keep[i].start, keep[i].len) != 0)
+    const struct chanv_rows *rows = &program->rows;
+    const uint8_t *byte = program->kept.at;
+    for (size_t i = 0; i < rows->extents.len; i++)
+        printf(", extent %u %u", rows->extents.at[i].first, rows->extents.at[i].last);
+    print_areas("fetch", rows->fetch);
+    print_areas("store", rows->store);
+    print_areas("keep", rows->keep);
+    for (size_t i = 0; i < rows->keep.len; byte += rows->keep.at[i++].len)
+        if (memcmp(byte, storage + rows->keep.at[i].start, rows->keep.at[i].len) != 0)
             printf(", wrong bytes");
 }
 
-/* Asks with so much room, and with NULL where there is none. */
-static uint32_t ask(const char *name, struct chanv_job job, struct counts room,
-                    struct chanv_needed *told)
+static void print_remarks(const struct chanv_needed *told)
 {
-    memset(told, 0x77, sizeof *told);
-    memset(extents, 0x77, sizeof extents);
-    memset(fetch, 0x77, sizeof fetch);
-    memset(store, 0x77, sizeof store);
-    memset(keep, 0x77, sizeof keep);
-    memset(kept, 0x77, sizeof kept);
-    uint32_t code =
-        chanv_needs(&job, told, room.extents ? extents : NULL, room.extents,
-                    room.fetch ? fetch : NULL, room.fetch, room.store ? store : NULL, room.store,
-                    room.keep ? keep : NULL, room.keep, room.kept ? kept : NULL, room.kept);
-    printf("%s: needs %" PRIu32 ", mask %02" PRIX8 ", storage %" PRIX32 ", %zu %zu %zu %zu, %zu",
-           name, code, told->mask, told->storage_len, told->extent_count, told->fetch_count,
-           told->store_count, told->keep_count, told->kept_len);
-    for (size_t i = 0; i < sizeof told->reserved / sizeof *told->reserved; i++)
-        if (told->reserved[i] != 0)
-            printf(", reserved %zu", i);
     if (told->may_hang != 0 || told->hangs_at != 0 || told->hangs_entered != 0)
-        printf(", may hang %" PRIu32 " at %06" PRIX32 " %s", told->may_hang, told->hangs_at,
+        printf(", may hang %u at %06" PRIX32 " %s", told->may_hang, told->hangs_at,
                chanv_entered_word(told->hangs_entered));
-    if (told->verdict.reason != 0)
-        printf(", no %06" PRIX32 " %s", told->verdict.address,
-               chanv_reason_word(told->verdict.reason));
-    if (told->verdict.extent != 0)
-        printf(", wrong extent %zu", told->verdict.extent);
-    struct counts written = {told->extent_count, told->fetch_count, told->store_count,
-                             told->keep_count, told->kept_len};
-    if (code == CHANV_OK)
-        print_rows(told);
-    else
-        written = (struct counts){0, 0, 0, 0, 0};
-    if (!are_left(extents, sizeof extents, sizeof *extents, written.extents)
-        || !are_left(fetch, sizeof fetch, sizeof *fetch, written.fetch)
-        || !are_left(store, sizeof store, sizeof *store, written.store)
-        || !are_left(keep, sizeof keep, sizeof *keep, written.keep)
-        || !are_left(kept, sizeof kept, sizeof *kept, written.kept))
-        printf(", wrong rows");
-    printf("\n");
-    return code;
+    if (told->interrupts != 0 || told->interrupts_at != 0)
+        printf(", interrupts %u at %06" PRIX32, told->interrupts, told->interrupts_at);
+    if (told->ends_chaining != 0 || told->ends_chaining_at != 0)
+        printf(", ends chaining %u at %06" PRIX32, told->ends_chaining, told->ends_chaining_at);
 }
 
-/* What the program in storage needs, as rows. */
-static struct chanv_rows rows_of(const struct chanv_needed *told)
+/* Takes a program in, and prints what is told of it. The next call may overwrite its lists. */
+static struct chanv_program ask(const char *name, struct chanv_job job)
 {
-    return (struct chanv_rows){
-        .extents = {extents, told->extent_count},
-        .fetch = {fetch, told->fetch_count},
-        .store = {store, told->store_count},
-        .keep = {keep, told->keep_count},
-        .storage_len = told->storage_len,
-        .mask = told->mask,
-    };
-}
-
-static void ask_with_little_room(void)
-{
+    static uint8_t memory[BYTES];
+    struct chanv_program program;
     struct chanv_needed told;
-    fill(seeks);
-    ask("no room, NULL", poor, (struct counts){0, 0, 0, 0, 0}, &told);
-    ask("one run of cylinders too many", poor, (struct counts){2, 2, 1, 3, 58}, &told);
-    ask("one area for fetching too many", poor, (struct counts){3, 1, 1, 3, 58}, &told);
-    ask("one area for storing too many", poor, (struct counts){3, 2, 0, 3, 58}, &told);
-    ask("one area that is kept too many", poor, (struct counts){3, 2, 1, 2, 58}, &told);
-    ask("one byte that is kept too many", poor, (struct counts){3, 2, 1, 3, 57}, &told);
-    ask("exact room", poor, (struct counts){3, 2, 1, 3, 58}, &told);
-    ask("more room", poor, (struct counts){ROOM, ROOM, ROOM, ROOM, BYTES}, &told);
-    fill(search_loop);
-    ask("no seek, NULL for its cylinders", poor, (struct counts){0, 1, 1, 1, 24}, &told);
+    memset(&told, 0x77, sizeof told);
+    uint32_t code = chanv_take_in(&job, memory, sizeof memory, NULL, &program, &told);
+    printf("%s: needs %" PRIu32 ", mask %02" PRIX8 ", storage %" PRIX32 ", %zu %zu %zu %zu, %zu",
+           name, code, told.mask, told.storage_len, told.extent_count, told.fetch_count,
+           told.store_count, told.keep_count, told.kept_len);
+    print_remarks(&told);
+    if (told.verdict.reason != 0)
+        printf(", no %06" PRIX32 " %s", told.verdict.address,
+               chanv_reason_word(told.verdict.reason));
+    if (told.verdict.extent != 0)
+        printf(", wrong extent %zu", told.verdict.extent);
+    if (code == CHANV_OK)
+        print_program(&program);
+    printf("\n");
+    return program;
 }
 
 /* What the job grants plays no part; its storage, start, limit and faults do. */
 static void ask_about_other_jobs(void)
 {
-    static const struct counts room = {ROOM, ROOM, ROOM, ROOM, BYTES};
-    struct chanv_needed told;
     struct chanv_job job = poor;
+    fill(search_loop);
     job.limit = 2;
-    ask("three places where two are allowed", job, room, &told);
+    ask("three places where two are allowed", job);
     job.limit = 3;
-    ask("three places where three are allowed", job, room, &told);
+    ask("three places where three are allowed", job);
     job = poor, job.start = 0x804;
-    ask("misaligned start", job, room, &told);
+    ask("misaligned start", job);
     job = poor, job.storage = (struct chanv_bytes){NULL, 0};
-    ask("no storage, NULL", job, room, &told);
+    ask("no storage, NULL", job);
     job = poor, job.storage.len = 0xA4F;
-    ask("a byte of the record outside storage", job, room, &told);
+    ask("a byte of the record outside storage", job);
     job.storage.len = 0xA50;
-    ask("storage that ends with the record", job, room, &told);
+    ask("storage that ends with the record", job);
     fill(sets_no_mask);
-    ask("no job will do", poor, room, &told);
+    ask("no job will do", poor);
+}
+
+/* What a program may do that a supervisor may refuse it for. */
+static void ask_for_remarks(void)
+{
     fill(endless);
-    ask("a read without end", poor, room, &told);
+    ask("a read without end", poor);
     static const struct {
         const char *name;
         uint8_t code;
@@ -197,8 +159,16 @@ static void ask_about_other_jobs(void)
     for (size_t i = 0; i < sizeof chains / sizeof *chains; i++) {
         fill(two_ways), storage[0x810] = chains[i].code;
         printf("the data chain of ");
-        ask(chains[i].name, poor, room, &told);
+        ask(chains[i].name, poor);
     }
+    fill(interrupting);
+    ask("an interruption after a transfer", poor);
+    storage[0x804] |= 0x08;
+    ask("two interruptions", poor);
+    fill(chaining);
+    ask("chain data where nothing moves", poor);
+    storage[0x804] = 0x40;
+    ask("the same at the second CCW", poor);
 }
 
 /* The program of a job with these rows, and with the kept bytes as storage has them now. */
@@ -232,19 +202,16 @@ static void try_start(const char *name, const struct chanv_job *job, const struc
 /* A start under a job with a fault, and what its program needs. */
 static void ask_with_faults(void)
 {
-    static const struct counts room = {ROOM, ROOM, ROOM, ROOM, BYTES};
     static const struct chanv_program nothing = {.rows = {.mask = 0x58}};
-    struct chanv_needed told;
     struct chanv_job job;
     const char *name;
+    fill(search_loop);
     for (int step = 0; (name = take_fault_away(step, &job)) != NULL; step++) {
         printf("%s: start ", name);
         try_beside(&job, NULL, 0, &nothing);
         printf("; ");
-        ask("its program", job, room, &told);
+        ask("its program", job);
     }
-    fill(search_loop), memset(job.reserved, 0, sizeof job.reserved);
-    ask("16 MiB of storage, and no fault", job, room, &told);
 }
 
 static void try_changed(const char *name, const struct chanv_job *job,
@@ -257,13 +224,10 @@ static void try_changed(const char *name, const struct chanv_job *job,
 
 static void try_the_search_loop(void)
 {
-    static const struct counts room = {ROOM, ROOM, ROOM, ROOM, BYTES};
     struct chanv_area two[] = {{0x903, 9}, {0x8FF, 4}}, exact[] = {{0x900, 5}};
     struct chanv_area record[] = {{0xA00, 0x50}};
-    struct chanv_needed told;
     fill(search_loop);
-    ask("the search loop", poor, room, &told);
-    struct chanv_rows rows = rows_of(&told);
+    struct chanv_rows rows = ask("the search loop", poor).rows;
     struct chanv_job job = poor;
     try_start("nothing lent, NULL", &job, &rows);
     job.fetch = (struct chanv_areas){exact, 1}, job.store = (struct chanv_areas){record, 1};
@@ -295,12 +259,9 @@ static void try_the_search_loop(void)
 
 static void try_the_seeks(void)
 {
-    static const struct counts room = {ROOM, ROOM, ROOM, ROOM, BYTES};
     struct chanv_extent two[] = {{10, 202}, {0, 0}};
-    struct chanv_needed told;
     fill(seeks);
-    ask("the seeks", poor, room, &told);
-    struct chanv_rows rows = rows_of(&told);
+    struct chanv_rows rows = ask("the seeks", poor).rows;
     struct chanv_job job = poor;
     job.fetch = job.store = (struct chanv_areas){all, 1};
     job.extents = (struct chanv_extents){all_cylinders, 1}, job.mask = 0x40;
@@ -321,15 +282,12 @@ static void ask_beside(void)
 {
     static const uint64_t reads[] = {0x060007F800000008, 0x060007F900000008, 0x0600081700000008,
                                      0x0600081800000008, 0x0600090000000008, 0x06000A0000000008};
-    static const struct counts room = {ROOM, ROOM, ROOM, ROOM, BYTES};
     static uint8_t memory[256];
-    struct chanv_needed told;
-    size_t len;
     struct chanv_job job = poor;
     struct chanv_program two[2] = {{.start = 0}};
     job.fetch = job.store = (struct chanv_areas){all, 1};
     fill(search_loop);
-    if (chanv_take_in(&job, memory, sizeof memory, &len, &two[1], &told) != CHANV_OK)
+    if (chanv_take_in(&job, memory, sizeof memory, NULL, &two[1], NULL) != CHANV_OK)
         printf("not taken in\n");
     printf("the search loop beside itself: ");
     try_beside(&job, two, 2, &two[1]);
@@ -337,9 +295,7 @@ static void ask_beside(void)
     for (size_t i = 0; i < sizeof reads / sizeof *reads; i++) {
         const struct word one_read[] = {{0xC00, reads[i]}, {0, 0}};
         fill(one_read), job.start = 0xC00;
-        ask("a read", job, room, &told);
-        struct chanv_rows rows = rows_of(&told);
-        struct chanv_program read = program_of(&job, &rows), in_flight[2] = {{.start = 0}, read};
+        struct chanv_program read = ask("a read", job), in_flight[2] = {{.start = 0}, read};
         printf("it beside the search loop: ");
         try_beside(&job, two, 2, &read);
         fill(search_loop), job.start = 0x800;
@@ -355,11 +311,8 @@ static void ask_who_writes(void)
     static const struct chanv_area areas[] = {{0x7F8, 8}, {0x7F8, 9},           {0x817, 1},
                                               {0x818, 8}, {0x810, 0},           {0, 0xFFFFFFFF},
                                               {0, 0},     {0xFFFFFFFF, 0xFFFFFFFF}};
-    static const struct counts room = {ROOM, ROOM, ROOM, ROOM, BYTES};
-    struct chanv_needed told;
     fill(search_loop);
-    ask("the search loop", poor, room, &told);
-    struct chanv_rows rows = rows_of(&told);
+    struct chanv_rows rows = ask("the search loop", poor).rows;
     struct chanv_program in_flight[2] = {{.start = 0}, program_of(&poor, &rows)};
     for (size_t i = 0; i < sizeof areas / sizeof *areas; i++) {
         struct chanv_refusal refusal;
@@ -378,8 +331,8 @@ static int is_in(const void *at, size_t size, const uint8_t *memory, size_t len)
     return from >= memory && from + size <= memory + len && (uintptr_t)from % 4 == 0;
 }
 
-/* Takes a program in, into so much memory at an address with so much left over by 4. No byte before
- * and after is written. */
+/* Takes a program in, into so much memory at an address with so much left over by 4. No other byte
+ * is written than those of the program. */
 static void take_in(const char *name, struct chanv_job job, size_t over, size_t room)
 {
     static _Alignas(8) uint8_t memory[512];
@@ -393,8 +346,8 @@ static void take_in(const char *name, struct chanv_job job, size_t over, size_t 
     uint32_t answer = chanv_take_in(&job, at, room, &len, &program, &needed);
     printf("%s, %zu bytes: take in %" PRIu32 ", %zu", name, room, answer, len);
     for (size_t i = 0; i < sizeof memory; i++)
-        if ((i < first || i >= first + room) && memory[i] != 0x77)
-            printf(", written beside the memory");
+        if ((i < first || i >= first + (answer == CHANV_OK ? len : 0)) && memory[i] != 0x77)
+            printf(", written beside the program");
     if (answer == CHANV_OK) {
         const struct chanv_rows *rows = &program.rows;
         int are_in = is_in(rows->fetch.at, 8 * rows->fetch.len, at, len)
@@ -434,27 +387,65 @@ static void take_programs_in(void)
     take_in("no job will do", poor, 0, 480);
 }
 
-/* A program, and one in flight, whose `reserved` isn't 0. */
-static void ask_with_fields_of_a_later_version(void)
+/* Rows that are no program, beside the search loop: its record is another's to store into, and its
+ * second CCW is for another to rely on. */
+static void ask_with_other_rows(void)
 {
-    struct chanv_program program = {.start = poor.start, .device = poor.device};
-    struct chanv_program two[2] = {{.start = 0}, program};
-    struct chanv_refusal refusal;
-    for (size_t i = 0; i < 4; i++) {
-        two[1].reserved[i] = 1;
-        printf("in flight: start ");
-        try_beside(&poor, two, 2, &program);
-        printf("; itself: start ");
-        try_beside(&poor, two, 2, &two[1]);
-        printf("; others write ");
-        memset(&refusal, 0x77, sizeof refusal);
-        print_refusal(chanv_check_write(two, 2, all, &refusal), &refusal);
+    static const struct chanv_area areas[] = {{0x7F8, 8}, {0x7F8, 9}, {0xA4F, 1}, {0xA50, 8}};
+    struct chanv_job job = generous();
+    struct chanv_program row;
+    fill(search_loop);
+    struct chanv_program program = ask("the search loop", job);
+    for (size_t i = 0; i < sizeof areas / sizeof *areas; i++) {
+        printf("%" PRIX32 " from %" PRIX32 ": beside who stores ", areas[i].len, areas[i].start);
+        chanv_row_storing(&areas[i], &row);
+        try_beside(&job, &row, 1, &program);
+        printf(", beside who keeps ");
+        chanv_row_keeping(&areas[i], &row);
+        try_beside(&job, &row, 1, &program);
         printf("\n");
-        two[1].reserved[i] = 0;
     }
 }
 
-/* Rows that `chanv_needs` didn't give do no harm, whatever is answered. */
+static void try_kept(const struct chanv_program *program, const struct chanv_area *areas,
+                     size_t count)
+{
+    struct chanv_refusal refusal;
+    memset(&refusal, 0x77, sizeof refusal);
+    printf("only in");
+    print_areas("these", (struct chanv_areas){areas, count});
+    printf(": ");
+    uint32_t answer = chanv_check_kept(program, areas, count, &refusal);
+    print_refusal(answer, &refusal);
+    printf("\n");
+}
+
+/* Whether the seeks keep only bytes of some areas: they keep 28 from 800, C from 900 and 6 from
+ * 910. */
+static void ask_what_is_kept(void)
+{
+    static const struct chanv_area exact[] = {{0x910, 6}, {0x900, 0xC}, {0x800, 0x28}};
+    static const struct chanv_area pieces[] = {{0x900, 0x17}, {0x810, 0x18}, {0, 0x810}};
+    static const struct chanv_area short_by_one[] = {{0x800, 0x27}, {0x900, 0x10}, {0x910, 6}};
+    static const struct chanv_area late[] = {{0x801, 0x27}, {0x900, 0xC}, {0x910, 6}};
+    static const struct chanv_area without[] = {{0x800, 0x28}, {0x910, 6}, {0x90C, 0}};
+    static const struct chanv_area most[] = {{0x800, 0x28}, {0x900, 0x15}};
+    static const struct chanv_area whole[] = {{0, 0xFFFFFFFF}};
+    static const struct chanv_program none = {.start = 0};
+    fill(seeks);
+    struct chanv_program program = ask("the seeks", poor);
+    try_kept(&program, exact, 3);
+    try_kept(&program, pieces, 3);
+    try_kept(&program, short_by_one, 3);
+    try_kept(&program, late, 3);
+    try_kept(&program, without, 3);
+    try_kept(&program, most, 2);
+    try_kept(&program, whole, 1);
+    try_kept(&program, NULL, 0);
+    try_kept(&none, NULL, 0);
+}
+
+/* Rows that `chanv_take_in` didn't give do no harm, whatever is answered. */
 static void ask_with_rows_that_nobody_gave(void)
 {
     static struct chanv_extent runs[] = {{9, 3}, {0, 65535}, {65535, 0}};
@@ -471,25 +462,27 @@ static void ask_with_rows_that_nobody_gave(void)
     int answers = 0;
     for (int mask = 0; mask < 256; mask++) {
         rows.mask = (uint8_t)mask;
-        struct chanv_program program = {rows, {storage, SMALL}, poor.start, 2314, {0}};
+        struct chanv_program program = {rows, {storage, SMALL}, poor.start, 2314};
         rows.storage_len = mask % 2 ? SMALL : 0xFFFFFFFF;
         answers += chanv_check_start(&poor, &program, 1, &program, &refusal) == CHANV_NO
-                   && chanv_check_write(&program, 1, &areas[0], &refusal) == CHANV_NO;
+                   && chanv_check_write(&program, 1, &areas[0], &refusal) == CHANV_NO
+                   && chanv_check_kept(&program, areas, 4, &refusal) == CHANV_NO;
     }
     printf("rows that nobody gave: %d answers\n", answers);
 }
 
 int main(void)
 {
-    ask_with_little_room();
     ask_about_other_jobs();
+    ask_for_remarks();
     ask_with_faults();
     try_the_search_loop();
     try_the_seeks();
     ask_beside();
     ask_who_writes();
     take_programs_in();
-    ask_with_fields_of_a_later_version();
+    ask_with_other_rows();
+    ask_what_is_kept();
     ask_with_rows_that_nobody_gave();
     return 0;
 }

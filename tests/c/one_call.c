@@ -39,17 +39,10 @@ static int list(const struct chanv_job *job)
     return answer == CHANV_OK ? say("3\n") : (int)answer;
 }
 
-static int is_as(const struct chanv_needed *one, const struct chanv_needed *other)
-{
-    return memcmp(one, other, offsetof(struct chanv_needed, hangs_entered) + 1) == 0
-           && memcmp(one->reserved, other->reserved, sizeof one->reserved) == 0;
-}
-
 static int is_untold(const struct chanv_explanation *told)
 {
     static const struct chanv_explanation none;
-    return memcmp(told, &none, offsetof(struct chanv_explanation, evidence.mask) + 1) == 0
-           && memcmp(told->reserved, none.reserved, sizeof none.reserved) == 0;
+    return memcmp(told, &none, sizeof none) == 0;
 }
 
 static int why(const struct chanv_job *job)
@@ -70,15 +63,12 @@ static int why(const struct chanv_job *job)
     return answer == CHANV_NO ? say("2 3\n") : (int)answer;
 }
 
-typedef enum chanv_answer telling(const struct chanv_job *job, char *buffer, size_t room,
-                                  size_t *len);
-
-static int tell(telling *call, const struct chanv_job *job)
+static int text(const struct chanv_job *job)
 {
     char buffer[1024];
     size_t len = 7;
     memset(buffer, 7, sizeof buffer);
-    uint32_t answer = call(job, buffer, sizeof buffer, &len);
+    uint32_t answer = chanv_text(job, buffer, sizeof buffer, &len);
     if ((answer == CHANV_NO) != (len != 0) || len >= sizeof buffer
         || (len != 0 && buffer[len - 1] != '\n'))
         return 99;
@@ -88,60 +78,22 @@ static int tell(telling *call, const struct chanv_job *job)
     return answer == CHANV_NO ? say("no\n") : (int)answer;
 }
 
-static int text(const struct chanv_job *job)
-{
-    return tell(chanv_text, job);
-}
-
-static int open_text(const struct chanv_job *job)
-{
-    return tell(chanv_open_text, job);
-}
-
-/* Room for four rows in each list, of which so many are written, and for 32 bytes. */
-static int needs(const struct chanv_job *job)
-{
-    static const struct chanv_needed none;
-    struct chanv_needed told;
-    struct chanv_extent extents[4];
-    struct chanv_area fetch[4], store[4], keep[4], before[4];
-    uint8_t kept[32], kept_before[32];
-    memset(&told, 7, sizeof told);
-    memset(extents, 7, sizeof extents);
-    memset(before, 7, sizeof before);
-    memset(kept_before, 7, sizeof kept_before);
-    memcpy(fetch, before, sizeof fetch);
-    memcpy(store, before, sizeof store);
-    memcpy(keep, before, sizeof keep);
-    memcpy(kept, kept_before, sizeof kept);
-    uint32_t answer =
-        chanv_needs(job, &told, extents, 4, fetch, 4, store, 4, keep, 4, kept, sizeof kept);
-    int is_listed = answer == CHANV_OK;
-    size_t written = is_listed ? 1 : 0, left = sizeof *before * (4 - written);
-    size_t kept_len = is_listed ? 24 : 0;
-    if (told.extent_count != 0 || told.fetch_count != written || told.store_count != written
-        || told.keep_count != written || told.kept_len != kept_len
-        || memcmp(extents, before, sizeof extents) != 0
-        || memcmp(fetch + written, before, left) != 0
-        || memcmp(store + written, before, left) != 0 || memcmp(keep + written, before, left) != 0
-        || memcmp(kept, storage + 0x800, kept_len) != 0
-        || memcmp(kept + kept_len, kept_before, sizeof kept - kept_len) != 0
-        || (!is_listed && !is_as(&told, &none)))
-        return 99;
-    return is_listed ? say("1 1 1\n") : (int)answer;
-}
-
 /* Into ample memory, and without memory a program of zeros. */
 static int take_in(const struct chanv_job *job)
 {
     static const struct chanv_program none;
+    static const struct chanv_needed nothing;
     struct chanv_needed needed;
     struct chanv_program taken;
-    uint8_t memory[256];
+    uint8_t memory[256], before[256];
     size_t len = 7;
-    memset(&taken, 7, sizeof taken);
+    memset(&taken, 7, sizeof taken), memset(&needed, 7, sizeof needed);
+    memset(memory, 7, sizeof memory), memcpy(before, memory, sizeof memory);
     uint32_t answer = chanv_take_in(job, memory, sizeof memory, &len, &taken, &needed);
-    if (answer != CHANV_OK && (len != 0 || memcmp(&taken, &none, sizeof none) != 0))
+    if (answer != CHANV_OK
+        && (len != 0 || memcmp(&taken, &none, sizeof none) != 0
+            || memcmp(&needed, &nothing, sizeof nothing) != 0
+            || memcmp(memory, before, sizeof memory) != 0))
         return 99;
     return answer == CHANV_OK && len <= sizeof memory ? say("yes\n") : (int)answer;
 }
@@ -184,6 +136,20 @@ static int check_write(const struct chanv_job *job)
     return answer == CHANV_YES ? say("yes\n") : (int)answer;
 }
 
+/* Only bytes of two areas, of which one isn't needed. */
+static int check_kept(const struct chanv_job *job)
+{
+    static const struct chanv_area areas[] = {{0x900, 5}, {0x800, 0x18}};
+    static const struct chanv_refusal none;
+    struct chanv_refusal refusal;
+    (void)job;
+    memset(&refusal, 7, sizeof refusal);
+    uint32_t answer = chanv_check_kept(&program, areas, 2, &refusal);
+    if (memcmp(&refusal, &none, sizeof none) != 0)
+        return 99;
+    return answer == CHANV_YES ? say("yes\n") : (int)answer;
+}
+
 static int find(const struct chanv_job *job)
 {
     uint32_t starts[] = {7, 7};
@@ -201,9 +167,9 @@ static const struct call {
 } calls[] = {
     {"verify", verify},           {"list", list},
     {"why", why},                 {"text", text},
-    {"open_text", open_text},     {"needs", needs},
     {"take_in", take_in},         {"check_start", check_start},
-    {"check_write", check_write}, {"find", find},
+    {"check_write", check_write}, {"check_kept", check_kept},
+    {"find", find},
 };
 
 int main(int argc, char **argv)
@@ -212,7 +178,7 @@ int main(int argc, char **argv)
     struct chanv_job job = good;
     fill(search_loop);
     const char *name = argc < 2 ? "setup" : argv[1];
-    if (strcmp(name, "why") == 0 || strstr(name, "text") != NULL) {
+    if (strcmp(name, "why") == 0 || strcmp(name, "text") == 0) {
         put(0x810, 0x0600081840000008);
         put(0x818, 0x0300000000000001);
         job.store.at = over, job.limit = 4;

@@ -16,7 +16,7 @@
 #include <stdatomic.h>
 #include <time.h>
 
-enum { CODES = 14, LISTS = 5, MOST_ROWS = 32, ROW = MOST_HANDED / MOST_ROWS };
+enum { CODES = 13, LISTS = 2, MOST_ROWS = 32, ROW = MOST_HANDED / MOST_ROWS };
 enum { PROGRAM_END = 0x868, DATA = 0x900, DATA_END = 0x938 };
 
 /* A program with all that is looked at while it is judged. It may run, and has fourteen places. */
@@ -192,20 +192,6 @@ static uint32_t text(size_t room)
     return within(code, code <= CHANV_NO, *len, bytes);
 }
 
-static uint32_t needs(size_t room)
-{
-    struct chanv_needed *told = answer_of(sizeof *told);
-    size_t size = sizeof(struct chanv_area), bytes = ROW * room;
-    uint32_t code = chanv_needs(&job, told, rows_of(0, sizeof(struct chanv_extent), room), room,
-                                rows_of(1, size, room), room, rows_of(2, size, room), room,
-                                rows_of(3, size, room), room, rows_of(4, 1, bytes), bytes);
-    const size_t counts[] = {told->extent_count, told->fetch_count, told->store_count,
-                             told->keep_count};
-    for (int i = 0; i < 4; i++)
-        within(code, code == CHANV_OK, counts[i], room);
-    return within(code, code == CHANV_OK, told->kept_len, bytes);
-}
-
 static uint32_t take_in(size_t room)
 {
     struct chanv_program *program = answer_of(sizeof *program);
@@ -280,7 +266,6 @@ static const struct call {
     {"list", list, CHANV_NO},
     {"why", why, CODES},
     {"text", text, CODES},
-    {"needs", needs, CODES},
     {"take_in", take_in, CODES},
     {"check_start", check_start, CHANV_TOO_MANY_PLACES},
     {"check_write", check_write, CHANV_TOO_MANY_PLACES},

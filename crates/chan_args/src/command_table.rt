@@ -388,7 +388,7 @@ fn program<'a>(alloc: Global) -> Result<Command<'a>, AllocError> {
     Ok(
         Command::new(alloc, "chanv")
             .about("tells whether System/360 channel programs are safe to start")
-            .version("0.7.0")
+            .version("0.8.0")
             .override_usage(USAGE),
     )
 }

@@ -8,22 +8,22 @@
  * Rules for the caller:
  *
  * - Each pointer is valid, and aligned for its type, for as many elements as its length says. If
- *   the length is 0, the pointer may be NULL. A pointer without a length may not be NULL. The
- *   memory for `chanv_take_in` may have any alignment.
+ *   the length is 0, the pointer may be NULL. A pointer without a length may be NULL only where a
+ *   call says so. The memory for `chanv_take_in` may have any alignment.
  * - The memory that a call writes lies apart from the job, from the programs and from everything
  *   that these point to. No two lists that a call writes share a byte.
  * - From the call to its return, nothing else writes the job, the table, or the lists and the kept
  *   bytes that these point to, and nothing else touches the memory that the call writes.
  * - Storage is another matter, because channels in flight store into it at any time:
- *   - During `chanv_needs` and `chanv_take_in` anything may write storage. CHANV_OK is about a
- *     private copy of the kept bytes: what the call judges is what the copy holds. If storage
- *     changed too much for that, the call returns CHANV_CHANGED_MEANWHILE: ask again, but not
- *     without end, and then refuse the program. Only CHANV_OK allows anything.
+ *   - During `chanv_take_in` anything may write storage. CHANV_OK is about a private copy of the
+ *     kept bytes: what the call judges is what the copy holds. If storage changed too much for
+ *     that, the call returns CHANV_CHANGED_MEANWHILE: ask again, but not without end, and then
+ *     refuse the program. Only CHANV_OK allows anything.
  *   - From the beginning of `chanv_check_start` until the program has left, only programs that are
  *     in the table throughout write its kept bytes, and others only after CHANV_YES from
  *     `chanv_check_write`, asked with the program in the table. All other bytes may change at any
  *     time.
- *   - `chanv_check_write` doesn't read storage.
+ *   - `chanv_check_write` and `chanv_check_kept` don't read storage.
  *   - During `chanv_verify`, `chanv_why`, `chanv_list`, `chanv_find` and the calls for texts
  *     nothing may write storage: ask about quiet storage, or about a copy. Otherwise the answer
  *     means nothing. The call still returns with one of its codes and writes nothing else; this is
@@ -31,11 +31,11 @@
  * - No call is made from a signal handler, nor, in the child of a process with threads, between
  *   fork and exec.
  * - malloc, realloc and free are those of one allocator, and aligned as C asks.
- * - Every `reserved` is 0.
  *
  * A program that runs alone needs one call, `chanv_verify`. A supervisor with several programs in
- * flight takes each program in by `chanv_take_in`, asks `chanv_check_start` before each start, and
- * `chanv_check_write` before each write of others:
+ * flight takes each program in by `chanv_take_in`, refuses one that keeps bytes outside its user's
+ * own storage by `chanv_check_kept`, and asks `chanv_check_start` before each start, and
+ * `chanv_check_write` before others write that storage:
  *
  *     if (chanv_check_start(&job, in_flight, UNITS, &program, &refusal) == CHANV_YES)
  *         ...
@@ -46,23 +46,25 @@
  * 1. The job is true: its bytes are main storage from address 0 on, its device is the device used,
  *    and the program starts at the job's start. Channel and device make only the steps of the
  *    machine. After a machine check or a channel control check nothing is promised.
- * 2. When a program starts, the arm is inside the job's extents, and the job's file mask is in
- *    force.
- * 3. Each program in flight has a unit of its own, that is, a device at an address of its own. It
+ * 2. When the channel comes to the job's start, the arm is inside the job's extents, and the job's
+ *    file mask is in force. A mask lasts for one chain, and each chain begins with mask 00.
+ * 3. Each program in flight has a unit of its own, that is, an arm that nobody else moves. It
  *    leaves the table of programs in flight only after the channel's last store for it is visible.
- * 4. Each program in the table, and the program about to start, is what `chanv_take_in` or
- *    `chanv_needs` gave with `CHANV_OK`, and neither its lists nor its kept bytes have changed.
- *    Every other row of the table only stores or only keeps.
+ * 4. Each program in the table, and the program about to start, is what `chanv_take_in` gave with
+ *    `CHANV_OK`, and neither its lists nor its kept bytes have changed. Every other row of the
+ *    table only stores or only keeps, as `chanv_row_storing` and `chanv_row_keeping` make it.
  * 5. From a question to the start, or to the end of the write, no other program starts, and nothing
  *    else writes a byte that a program in the table or the program about to start keeps.
  * 6. Others write only after a yes of `chanv_check_write`, and the machine's own stores (of PSWs,
  *    the CSW and the timer) spare every byte that a program in flight keeps.
  *
  * For 5 hold one lock over the question, the table, and the start or the write. A write that lasts,
- * such as a tape's input into a buffer, has a row in the table: a program whose `rows.store` is the
- * area, and which is zero otherwise. Enter it after CHANV_YES from `chanv_check_write`, and take it
- * out after the last byte is written. Meanwhile no program that keeps a byte of the area gets
- * CHANV_YES, so others may write into the area all the time.
+ * such as a tape's input into a buffer, has a row in the table, which `chanv_row_storing` makes.
+ * Enter it after CHANV_YES from `chanv_check_write`, and take it out after the last byte is
+ * written. Meanwhile no program that keeps a byte of the area gets CHANV_YES, so others may write
+ * into the area all the time. A row from `chanv_row_keeping` guards bytes that are no program's,
+ * such as a prefix of the supervisor's own: while it is in the table, no program that may store
+ * over them gets CHANV_YES.
  *
  * A call writes only the memory that it was handed for that. It keeps nothing after it returns, so
  * several threads may call at once, even about one job.
@@ -79,9 +81,9 @@ extern "C" {
 
 /* The version of this header: as text, number by number, and as one number, 65,536 times the first
  * number plus 256 times the second plus the third. `chanv_version` gives the library's number. */
-#define CHANV_VERSION "0.7.0"
+#define CHANV_VERSION "0.8.0"
 #define CHANV_VERSION_MAJOR 0
-#define CHANV_VERSION_MINOR 7
+#define CHANV_VERSION_MINOR 8
 #define CHANV_VERSION_PATCH 0
 #define CHANV_VERSION_NUMBER \
     (65536 * CHANV_VERSION_MAJOR + 256 * CHANV_VERSION_MINOR + CHANV_VERSION_PATCH)
@@ -133,13 +135,17 @@ struct chanv_job {
     uint32_t limit;               /* how many places may be reachable, 1 to 65,536 */
     uint16_t device;              /* the type of the device, 2311 or 2314 */
     uint8_t mask;                 /* the file mask that is in force at the start */
-    uint64_t reserved[4];         /* 0: room for the fields of a later version */
 };
+
+/* What the open job of a program grants: everything. The first two are for initializers. */
+#define CHANV_ALL_CYLINDERS {0, 202}
+#define CHANV_ALL_STORAGE {0, 16777216}
+#define CHANV_OPEN_MASK 0xC0
 
 /* The usual limit, and the largest. */
 enum chanv_limit { CHANV_USUAL_LIMIT = 4096, CHANV_LARGEST_LIMIT = 65536 };
 
-/* What a call returns. 4 to 10 and 12 are faults of the job itself: a job with a fault gets no
+/* What a call returns. 4 to 10 are faults of the job itself: a job with a fault gets no
  * answer, and of several faults the call returns the least. CHANV_MEMORY may come in place of any
  * other code except 4 to 7, because a call looks for these faults before it takes memory. Keep an
  * answer in a variable of this type: then GCC warns (-Wenum-compare) if you compare it with a
@@ -158,8 +164,7 @@ enum chanv_answer {
     CHANV_EXTENT_PAST_DEVICE = 9, /* the first wrong extent has its last cylinder above 202 */
     CHANV_NOT_A_LIMIT = 10,       /* the limit is 0, or above 65,536 */
     CHANV_NO_ROOM = 11,           /* there is more to write than room; from `chanv_why`: a no too */
-    CHANV_RESERVED_NOT_ZERO = 12, /* `reserved` isn't 0: the job has fields of a later version */
-    CHANV_CHANGED_MEANWHILE = 13  /* storage changed during the call: ask again */
+    CHANV_CHANGED_MEANWHILE = 12  /* storage changed during the call: ask again */
 };
 
 /* The reasons of a no. */
@@ -260,37 +265,44 @@ struct chanv_explanation {
     size_t path_count;        /* how many places the path has */
     size_t second_path_count; /* how many places the second path has; often 0 */
     struct chanv_evidence evidence;
-    uint32_t unused;      /* 0 */
-    uint64_t reserved[4]; /* 0: room for the values of a later version */
+    uint32_t unused; /* 0 */
 };
 
-/* The answer of `chanv_needs`, except the lists; unused fields are 0. */
+/* What `chanv_take_in` says of a program, except its lists; unused fields are 0. */
 struct chanv_needed {
     struct chanv_verdict verdict; /* the no if no job will do, or the first wrong extent */
-    size_t extent_count;          /* how many rows each of the four lists has */
+    size_t extent_count;          /* how many rows each of its four lists has */
     size_t fetch_count;
     size_t store_count;
     size_t keep_count;
-    size_t kept_len;       /* how many bytes all areas of `keep` have together */
-    uint32_t storage_len;  /* how many bytes storage has */
-    uint32_t may_hang;     /* 1 if from some place on only an error, an end of file, an incorrect
-                              length or a halt ends the program */
-    uint32_t hangs_at;     /* the least address of a CCW from which on it does */
-    uint8_t mask;          /* the strictest file mask that serves */
-    uint8_t hangs_entered; /* how the program enters the CCW at `hangs_at`, an `enum chanv_entered`;
-                              entered otherwise, the CCW may lead to an end */
-    uint64_t reserved[4]; /* 0: room for the values of a later version */
+    size_t kept_len;           /* how many bytes all areas of `keep` have together */
+    uint32_t storage_len;      /* how many bytes storage has */
+    uint32_t hangs_at;         /* the least address of a CCW from which on only an error, an end of
+                                  file, an incorrect length or a halt ends the program */
+    uint32_t interrupts_at;    /* the least address of a CCW that asks for a program-controlled
+                                  interruption */
+    uint32_t ends_chaining_at; /* the least address of a No Operation or Recalibrate with chain data
+                                  on: the program ends there, but an emulator may go on */
+    uint8_t mask;              /* the strictest file mask that serves */
+    uint8_t may_hang;          /* 1 if there is a CCW for `hangs_at`, else 0 */
+    uint8_t interrupts;        /* 1 if there is a CCW for `interrupts_at`, else 0 */
+    uint8_t ends_chaining;     /* 1 if there is a CCW for `ends_chaining_at`, else 0 */
+    uint8_t hangs_entered;     /* how the program enters the CCW at `hangs_at`, an
+                                  `enum chanv_entered`; entered otherwise, it may lead to an end */
+    uint8_t unused[3];         /* 0 */
 };
 
-/* The needs of a program, as `chanv_needs` gave them: its lists with their lengths, and two
- * fields of `struct chanv_needed`. */
+/* What a program needs of each job, and what it keeps. Each list rises, no row is empty, and
+ * between two rows there is a gap. A job of the program gets CHANV_YES exactly if it grants all
+ * this, unless more places are reachable than its limit. */
 struct chanv_rows {
-    struct chanv_extents extents;
-    struct chanv_areas fetch;
-    struct chanv_areas store;
-    struct chanv_areas keep;
-    uint32_t storage_len;
-    uint8_t mask;
+    struct chanv_extents extents; /* the cylinders that seeks go to */
+    struct chanv_areas fetch;     /* the bytes that are fetched */
+    struct chanv_areas store;     /* the bytes that are stored into */
+    struct chanv_areas keep;      /* the bytes of CCWs, seek arguments and masks that are set */
+    uint32_t storage_len;         /* how many bytes storage has */
+    uint8_t mask;                 /* the strictest file mask that serves: it inhibits no command
+                                     that may begin, and no byte that is set as a mask is weaker */
 };
 
 /* All that a supervisor remembers of a program; `chanv_take_in` fills it. A struct of zeros is no
@@ -304,12 +316,11 @@ struct chanv_program {
                                 after them don't matter */
     uint32_t start;          /* the address of the first CCW */
     uint16_t device;         /* the type of the device, 2311 or 2314 */
-    uint64_t reserved[4];    /* 0: room for the fields of a later version */
 };
 
-/* Why a program may not start, or others may not write. `chanv_check_start` looks for 12 and 13
- * first, then for 1 to 10 in order; for 9 and 10 it goes through the programs in flight, and looks
- * for 9 and then for 10 at each. `chanv_check_write` looks for 13, then for 11. */
+/* Why a program may not start, others may not write, or a program keeps too much.
+ * `chanv_check_start` looks for 1 to 10 in order; for 9 and 10 it goes through the programs in
+ * flight, and looks for 9 and then for 10 at each. */
 enum chanv_refused {
     CHANV_REFUSED_OTHER_START = 1,        /* the job starts at another address */
     CHANV_REFUSED_OTHER_DEVICE = 2,       /* the job is for another type of device */
@@ -328,17 +339,16 @@ enum chanv_refused {
     CHANV_REFUSED_KEEPS_STORED_OVER = 10, /* it keeps the byte at `value`, which `program` may store
                                              over */
     CHANV_REFUSED_WRITES_OVER_KEPT = 11,  /* `program` keeps the byte at `value` */
-    CHANV_REFUSED_RESERVED = 12,          /* its `reserved` isn't 0: fields of a later version */
-    CHANV_REFUSED_RESERVED_IN_FLIGHT = 13 /* the `reserved` of `program` isn't 0 */
+    CHANV_REFUSED_KEEPS_OUTSIDE = 12      /* `value`: the least byte kept outside the areas */
 };
 
-/* A refusal of `chanv_check_start` or `chanv_check_write`; unused fields are 0. */
+/* A refusal of `chanv_check_start`, `chanv_check_write` or `chanv_check_kept`; unused fields are
+ * 0. */
 struct chanv_refusal {
-    size_t extent;        /* the index of the job's first wrong extent */
-    size_t program;       /* the index in `in_flight` of the first program in the way */
-    uint32_t code;        /* the refusal, an `enum chanv_refused` */
-    uint32_t value;       /* the address or the cylinder */
-    uint64_t reserved[4]; /* 0: room for the values of a later version */
+    size_t extent;  /* the index of the job's first wrong extent */
+    size_t program; /* the index in `in_flight` of the first program in the way */
+    uint32_t code;  /* the refusal, an `enum chanv_refused` */
+    uint32_t value; /* the address or the cylinder */
 };
 
 /* May the program run? CHANV_YES, CHANV_NO, or why there is no answer. A yes has premises 1 and 2
@@ -384,63 +394,48 @@ enum chanv_answer chanv_why(const struct chanv_job *job, struct chanv_place *pat
  * values.
  * CHANV_NO_ROOM: the text has `*len` bytes, more than `room`.
  * Otherwise the call returns why there is no answer, like `chanv_verify`, and `*len` is 0. A byte
- * of `buffer` is written only for CHANV_YES and CHANV_NO. */
+ * of `buffer` is written only for CHANV_YES and CHANV_NO.
+ *
+ * After CHANV_NO from `chanv_take_in` ask about a job with the extents CHANV_ALL_CYLINDERS, the
+ * areas CHANV_ALL_STORAGE and the mask CHANV_OPEN_MASK: its text says why no job will do. */
 CHANV_MUST_USE CHANV_NOT_NULL(1, 4)
 enum chanv_answer chanv_text(const struct chanv_job *job, char *buffer, size_t room, size_t *len);
 
-/* What must every job grant the job's program, and which bytes does the program keep? The program
- * is the job's storage, start and device. The job's own grants don't matter, but the job must have
- * no fault. Its limit counts the places that are reachable if everything is granted.
+/* Takes the job's program in: finds what every job has to grant it and which bytes it keeps, puts
+ * the lists and the kept bytes into `memory`, and fills `program`, which refers to them. Keep
+ * `memory` where it is, as long as the program or a copy of it is used. The program is the job's
+ * storage, start and device. The job's own grants don't matter, but the job must have no fault. Its
+ * limit counts the places that are reachable if everything is granted.
  *
- * CHANV_OK: some job will do. The first `out->extent_count` rows of `extents` are the cylinders
- * that seeks go to; the rows of `fetch` and `store` are the bytes that are fetched and stored into;
- * the rows of `keep` are the bytes of CCWs, of seek arguments and of masks that are set. Each list
- * rises, no row is empty, and between two rows there is a gap. The first `out->kept_len` bytes of
- * `kept` are the bytes of storage in the rows of `keep`, area after area. The other rows and bytes
- * keep their values. `out->mask` is the strictest file mask that serves: it inhibits no command
- * that may begin, and no byte that is set as a mask is weaker. A job of the program gets CHANV_YES
- * exactly if it grants all this, provided that its limit isn't below the number of its places.
+ * CHANV_OK: some job will do. The program is remembered, in the first `*len` bytes of `memory`; no
+ * other byte of it is written.
  * CHANV_NO: no job will do; `out->verdict` is the verdict if everything is granted.
- * CHANV_NO_ROOM: `out` has all that it has for CHANV_OK, but a list, or `kept`, has too little
- * room.
+ * CHANV_NO_ROOM: the program takes `*len` bytes, at each address, and that is more than `room`.
  * CHANV_CHANGED_MEANWHILE: storage was written during the call, so ask again; over quiet storage
  * this answer never comes.
  * Otherwise the call returns why there is no answer, like `chanv_verify`, with the first wrong
- * extent if there is one. A row or a byte is written only for CHANV_OK.
+ * extent if there is one. Unless the answer is CHANV_OK or CHANV_NO_ROOM, `*len` is 0. Unless it is
+ * CHANV_OK, `program` is zeroed, and no byte of `memory` is written.
  *
- * CHANV_OK holds, before a start and during the run, over each storage of `out->storage_len` bytes
- * with the same kept bytes; all other bytes may change, also during the call. If storage is written
- * during the call, every other answer may be about a mixture of old and new bytes. The call takes
- * memory as long as storage, of which it writes what the program keeps. */
-CHANV_MUST_USE CHANV_NOT_NULL(1, 2)
-enum chanv_answer chanv_needs(const struct chanv_job *job, struct chanv_needed *out,
-                              struct chanv_extent *extents, size_t extents_room,
-                              struct chanv_area *fetch, size_t fetch_room,
-                              struct chanv_area *store, size_t store_room,
-                              struct chanv_area *keep, size_t keep_room,
-                              uint8_t *kept, size_t kept_room);
-
-/* Takes the job's program in: asks `chanv_needs`, puts the lists and the kept bytes into `memory`,
- * and fills `program`, which refers to them. Keep `memory` where it is, as long as the program or a
- * copy of it is used.
- *
- * CHANV_OK: the program is remembered, in the first `*len` bytes of `memory`. The other bytes of
- * `memory` lose their values too.
- * CHANV_NO_ROOM: it takes `*len` bytes, more than `room`; it takes as many at each address.
- * Otherwise the call returns like `chanv_needs`, and `*len` is 0.
- *
- * `out` is always what `chanv_needs` wrote: it has the verdict if no job will do, and says whether
- * the program may hang. Unless the answer is CHANV_OK, `program` is zeroed, and no byte of `memory`
- * is written. */
-CHANV_MUST_USE CHANV_NOT_NULL(1, 4, 5, 6)
+ * CHANV_OK holds, before a start and during the run, over each storage of this length with the same
+ * kept bytes; all other bytes may change, also during the call. If storage is written during the
+ * call, every other answer may be about a mixture of old and new bytes. The call takes memory as
+ * long as storage, of which it writes what the program keeps, and 46 bytes for each place of the
+ * limit. `len` and `out` may be NULL. */
+CHANV_MUST_USE CHANV_NOT_NULL(1, 5)
 enum chanv_answer chanv_take_in(const struct chanv_job *job, void *memory, size_t room, size_t *len,
                                 struct chanv_program *program, struct chanv_needed *out);
 
-/* Like `chanv_text`, but about the open job of the job's program, which grants everything. So after
- * CHANV_NO from `chanv_needs` the text says why no job will do. */
+/* Does a program that was taken in keep only bytes of these areas, in any order?
+ *
+ * CHANV_YES: each kept byte lies in one of the areas. What is written elsewhere needs no question,
+ * as far as this program goes.
+ * CHANV_NO: `out` has CHANV_REFUSED_KEEPS_OUTSIDE, and the least byte that it keeps elsewhere.
+ * CHANV_MEMORY: memory ran out. There is no other answer. */
 CHANV_MUST_USE CHANV_NOT_NULL(1, 4)
-enum chanv_answer chanv_open_text(const struct chanv_job *job, char *buffer, size_t room,
-                                  size_t *len);
+enum chanv_answer chanv_check_kept(const struct chanv_program *program,
+                                   const struct chanv_area *areas, size_t count,
+                                   struct chanv_refusal *out);
 
 /* May a remembered program start under the job, together with the `count` programs in flight?
  *
@@ -451,11 +446,11 @@ enum chanv_answer chanv_open_text(const struct chanv_job *job, char *buffer, siz
  * flight.
  * CHANV_NO: `out` has the first refusal.
  * Otherwise the call returns why there is no answer, like `chanv_verify`, with the first wrong
- * extent if there is one. It looks for each fault of the job, 4 to 10 and 12, even for an invalid
- * limit. But it counts no places, so it never returns CHANV_TOO_MANY_PLACES.
+ * extent if there is one. It looks for each fault of the job, 4 to 10, even for an invalid limit.
+ * But it counts no places, so it never returns CHANV_TOO_MANY_PLACES.
  *
  * It says nothing about data: a program may read in over bytes that another program writes out. It
- * goes once over rows that come from `chanv_needs`. For rows from elsewhere that are out of order
+ * goes once over rows that come from `chanv_take_in`. For rows from elsewhere that are out of order
  * the cost is the product of their numbers: sort them first. */
 CHANV_MUST_USE CHANV_NOT_NULL(1, 4, 5)
 enum chanv_answer chanv_check_start(const struct chanv_job *job,
@@ -468,11 +463,18 @@ enum chanv_answer chanv_check_start(const struct chanv_job *job,
  *
  * CHANV_YES: no program in flight keeps a byte of the area.
  * CHANV_NO: `out` has CHANV_REFUSED_WRITES_OVER_KEPT, the first program that keeps a byte of the
- * area, and the least such byte; or CHANV_REFUSED_RESERVED_IN_FLIGHT and the first program whose
- * `reserved` isn't 0. */
+ * area, and the least such byte. */
 CHANV_MUST_USE CHANV_NOT_NULL(3, 4)
 enum chanv_answer chanv_check_write(const struct chanv_program *in_flight, size_t count,
                                     const struct chanv_area *area, struct chanv_refusal *out);
+
+/* Makes a row of the table that is no program: it stands for others who write into the area for a
+ * while, or for those who rely on what the area holds. The row refers to the area, so keep the area
+ * where it is as long as the row is in the table. */
+CHANV_NOT_NULL(1, 2)
+void chanv_row_storing(const struct chanv_area *area, struct chanv_program *row);
+CHANV_NOT_NULL(1, 2)
+void chanv_row_keeping(const struct chanv_area *area, struct chanv_program *row);
 
 /* Which channel programs for this type of device are in storage? Their starts are listed once each,
  * in order; docs/OLD-PROGRAMS.md says which starts these are.
@@ -485,7 +487,7 @@ CHANV_MUST_USE CHANV_NOT_NULL(1, 5)
 enum chanv_answer chanv_find(const struct chanv_bytes *storage, uint16_t device, uint32_t *starts,
                              size_t room, size_t *count);
 
-/* 1 if the answer is a fault of the job itself (4 to 10, or 12), else 0. */
+/* 1 if the answer is a fault of the job itself (4 to 10), else 0. */
 int chanv_is_fault(uint32_t answer);
 
 /* The library's version, as CHANV_VERSION_NUMBER is the header's. */

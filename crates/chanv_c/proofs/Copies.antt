@@ -1,9 +1,9 @@
 -- What is found of a program over a copy of the bytes that it keeps.
-use Rattle.std.proofs.Common.{◌∙◌, ◌≡◌, ◌<◌, ◌+◌, ℕ, List, Option, ap, drop, get_or, length, refl, subst, sym}
+use Rattle.std.proofs.Common.{◌∙◌, ◌≡◌, ◌<◌, ◌+◌, ℕ, List, ap, drop, get_or, length, refl, subst, sym}
 use Rattle.ccw_core.specs.declared.areas.Area.{Area}
 use Rattle.chan_needs.proofs.Holding.{nowhere, rest_of}
 use Rattle.chan_walk.specs.Job.{storage_of}
-use Rattle.chan_walk.specs.declared.place.Place.{Place}
+use Rattle.chan_why.specs.declared.remarks.Remarks.{Remarks}
 use Rattle.chan_needs.specs.Needs.{KeepsProgram}
 use Rattle.chan_needs.specs.Remembered.{HoldsAreas}
 use Rattle.chan_needs.specs.Listed.{Listed}
@@ -13,9 +13,9 @@ use Rattle.chanv_c.specs.declared.job.CJob.{CJob}
 use Rattle.chanv_c.specs.Needs.{AreNeedsOf, AreNeedsWhereHeld, with_area, with_areas}
 
 -- the needs over one storage are those over each that is as long and holds the kept bytes
-pub where_held : (c : CJob) (n : Listed) (hang : Option Place) (kept : List ℕ)
-    → AreNeedsOf c n hang → HoldsAreas c.storage.now n.keep kept → AreNeedsWhereHeld c n kept
-where_held c n hang kept h held k start device len holds =
+pub where_held : (c : CJob) (n : Listed) (r : Remarks) (kept : List ℕ)
+    → AreNeedsOf c n r → HoldsAreas c.storage.now n.keep kept → AreNeedsWhereHeld c n kept
+where_held c n r kept h held k start device len holds =
     let j = h.judged.is_open.job in
     let asked = h.judged.is_open.asked in
     let there : HoldsAreas (storage_of j) n.keep kept = subst (λ (s : List ℕ). HoldsAreas s n.keep kept) (sym asked.storage) held in

@@ -1,6 +1,6 @@
 -- Over quiet storage a copy of what a program was found to keep holds what storage holds, and over it
 -- the program keeps just that.
-use Rattle.std.proofs.Common.{◌∙◌, ◌≡◌, ◌≢◌, ◌<◌, ◌≤◌, ◌+◌, ◌++◌, ◌⊎◌, ◌∷◌, [], ℕ, List, Option, true, ap, arith, drop, inl, inr, length, refl, subst, sym, take}
+use Rattle.std.proofs.Common.{◌∙◌, ◌≡◌, ◌≢◌, ◌<◌, ◌≤◌, ◌+◌, ◌++◌, ◌⊎◌, ◌∷◌, [], ℕ, List, true, ap, arith, drop, inl, inr, length, refl, subst, sym, take}
 use Rattle.std.proofs.lemmas.Bool.{both_ways, cases_lt, le-leb}
 use Rattle.std.proofs.lemmas.Grind.{common_steps}
 use Rattle.std.proofs.lemmas.List.Elements.{All-head, All-tail}
@@ -13,7 +13,6 @@ use Rattle.chan_areas.specs.Merged.{IsByteOf}
 use Rattle.chan_areas.proofs.Merging.{exactly_one, lies_in-cases}
 use Rattle.chan_walk.specs.Job.{storage_of}
 use Rattle.chan_walk.specs.declared.job.Job.{Job}
-use Rattle.chan_walk.specs.declared.place.Place.{Place}
 use Rattle.chan_walk.specs.declared.reason.Reason.{Reason}
 use Rattle.chan_walk.specs.declared.verdict.Verdict.TheVariants.{Yes, No}
 use Rattle.chan_walk.specs.Answers.{HasAtMost}
@@ -27,12 +26,13 @@ use Rattle.chan_needs.specs.Listed.{AreNeeds, Listed}
 use Rattle.chan_needs.proofs.Inside.{keep_inside}
 use Rattle.chan_needs.proofs.Remembering.{same_device}
 use Rattle.chan_needs.proofs.Staying.{holds_over, needs_stay, reached_same}
+use Rattle.chan_why.specs.declared.remarks.Remarks.{Remarks}
 use Rattle.chanv_c.specs.declared.job.CJob.{CJob}
 use Rattle.chanv_c.specs.declared.refusal.Refusal.{Refusal}
 use Rattle.chanv_c.specs.declared.refusal.Refusal.TheVariants.{Memory, TooManyPlaces, Wrong}
 use Rattle.chanv_c.specs.Answers.{IsRefusal}
 use Rattle.chanv_c.specs.declared.refusal.JobFault.{JobFault}
-use Rattle.chanv_c.specs.declared.refusal.JobFault.TheVariants.{StorageTooLarge, NotADevice, NotAMask, NoExtent, ExtentBackwards, ExtentPastDevice, NotALimit, ReservedNotZero}
+use Rattle.chanv_c.specs.declared.refusal.JobFault.TheVariants.{StorageTooLarge, NotADevice, NotAMask, NoExtent, ExtentBackwards, ExtentPastDevice, NotALimit}
 use Rattle.chanv_c.specs.Faults.{HasJobFault, HasNoFault}
 use Rattle.chanv_c.specs.Job.{IsAskedJob, extents_asked}
 use Rattle.chanv_c.specs.Needs.{AreNeedsOf, AsksOverCopy, HasTooManyOpenly, KeepsOtherAreas, with_area, with_areas}
@@ -76,7 +76,7 @@ module _ (s : List ℕ) where
           or_held first (inr later) = inl later
 
 -- the program of c was found to need this, and what it keeps is copied
-module _ (c : CJob) (n : Listed) (hang : Option Place) (areas : List Area) (old copy : List ℕ) (found : AreNeedsOf c n hang) (keep : areas ≡ n.keep)
+module _ (c : CJob) (n : Listed) (r : Remarks) (areas : List Area) (old copy : List ℕ) (found : AreNeedsOf c n r) (keep : areas ≡ n.keep)
     (long : (length old ≡ length c.storage.now) × (length copy ≡ length old)) (copied : copy ≡ with_areas c.storage.now areas old) where
   abbrev j : Job
   j = found.judged.is_open.job
@@ -145,8 +145,8 @@ module _ (c : CJob) (n : Listed) (hang : Option Place) (areas : List Area) (old 
 
 -- a job over a copy that is as long has no fault either
 right_over : (c d : CJob) → length d.storage.now ≡ length c.storage.now → d.device ≡ c.device → d.mask ≡ c.mask
-    → extents_asked d ≡ extents_asked c → d.limit ≡ c.limit → d.reserved ≡ c.reserved → HasNoFault c → HasNoFault d
-right_over c d long device mask extents limit reserved right f h = right f (there f h)
+    → extents_asked d ≡ extents_asked c → d.limit ≡ c.limit → HasNoFault c → HasNoFault d
+right_over c d long device mask extents limit right f h = right f (there f h)
   where
     there : (f : JobFault) → HasJobFault d f → HasJobFault c f
     there StorageTooLarge h = rw long at h
@@ -156,12 +156,11 @@ right_over c d long device mask extents limit reserved right f h = right f (ther
     there (ExtentBackwards i) h = rw extents at h
     there (ExtentPastDevice i) h = rw extents at h
     there NotALimit h = rw limit at h
-    there ReservedNotZero h = rw reserved at h
 
 -- so over quiet storage the program keeps no other areas
-pub nothing_changed : (c : CJob) (n : Listed) (hang : Option Place) (areas : List Area) (old copy : List ℕ) {d : CJob} → AreNeedsOf c n hang → areas ≡ n.keep
+pub nothing_changed : (c : CJob) (n : Listed) (r : Remarks) (areas : List Area) (old copy : List ℕ) {d : CJob} → AreNeedsOf c n r → areas ≡ n.keep
     → (length old ≡ length c.storage.now) × (length copy ≡ length old) → copy ≡ with_areas c.storage.now areas old → KeepsOtherAreas d areas
-    → AsksOverCopy c copy d → HasNoFault c → d.mask ≡ c.mask → extents_asked d ≡ extents_asked c → d.reserved ≡ c.reserved → ⊥
-nothing_changed c n hang areas old copy {d = d} found keep long copied others over right mask extents reserved =
-    keeps_these c n hang areas old copy found keep long copied d over
-    (right_over c d (ap (λ (s : List ℕ). length s) over.storage ∙ over.same_length) over.device mask extents over.limit reserved right) others
+    → AsksOverCopy c copy d → HasNoFault c → d.mask ≡ c.mask → extents_asked d ≡ extents_asked c → ⊥
+nothing_changed c n r areas old copy {d = d} found keep long copied others over right mask extents =
+    keeps_these c n r areas old copy found keep long copied d over
+    (right_over c d (ap (λ (s : List ℕ). length s) over.storage ∙ over.same_length) over.device mask extents over.limit right) others

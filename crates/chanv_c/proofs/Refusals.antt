@@ -3,7 +3,7 @@ use Rattle.std.proofs.Common.{◌≡◌, ◌≢◌, ◌<◌, ◌≤◌, ◌⊎�
 use Rattle.chanv_c.specs.declared.codes.TheConstants as codes
 use Rattle.chanv_c.specs.declared.job.CJob.{CJob}
 use Rattle.chanv_c.specs.declared.refusal.JobFault.{JobFault}
-use Rattle.chanv_c.specs.declared.refusal.JobFault.TheVariants.{StorageTooLarge, NotADevice, NotAMask, NoExtent, ExtentBackwards, ExtentPastDevice, NotALimit, ReservedNotZero}
+use Rattle.chanv_c.specs.declared.refusal.JobFault.TheVariants.{StorageTooLarge, NotADevice, NotAMask, NoExtent, ExtentBackwards, ExtentPastDevice, NotALimit}
 use Rattle.chanv_c.specs.declared.refusal.Refusal.{Refusal}
 use Rattle.chanv_c.specs.declared.refusal.Refusal.TheVariants.{TooManyPlaces, Memory, Wrong}
 use Rattle.chanv_c.specs.Answers.{IsAnswerCode, IsRefusal, refusal_after, refusal_code, refusal_extent}
@@ -20,8 +20,8 @@ use Rattle.std.specs.Result.{IfErr, IsErrAnd}
 use Rattle.std.specs.declared.result.Result.{Result}
 use Rattle.ccw_core.specs.declared.ccw.TheConstants.{STORAGE_LIMIT}
 
--- a fault's number is from 4 to 12, and not that of too little room
-fault_numbers : (f : JobFault) → (4 ≤ fault_code f) × (fault_code f ≤ 12) × (fault_code f ≢ 11)
+-- a fault's number is from 4 to 10, and not that of too little room
+fault_numbers : (f : JobFault) → (4 ≤ fault_code f) × (fault_code f ≤ 10) × (fault_code f ≢ 11)
 fault_numbers StorageTooLarge = (omega arith, omega arith, λ e. omega (arith, e))
 fault_numbers NotADevice = (omega arith, omega arith, λ e. omega (arith, e))
 fault_numbers NotAMask = (omega arith, omega arith, λ e. omega (arith, e))
@@ -29,7 +29,6 @@ fault_numbers NoExtent = (omega arith, omega arith, λ e. omega (arith, e))
 fault_numbers (ExtentBackwards i) = (omega arith, omega arith, λ e. omega (arith, e))
 fault_numbers (ExtentPastDevice i) = (omega arith, omega arith, λ e. omega (arith, e))
 fault_numbers NotALimit = (omega arith, omega arith, λ e. omega (arith, e))
-fault_numbers ReservedNotZero = (omega arith, omega arith, λ e. omega (arith, e))
 
 fault_accepts_none : (n : ℕ) {A : Type 0} → 4 ≤ n → n ≢ 11 → (n < 3) ⊎ (n ≡ 11) → A
 fault_accepts_none n four not (inl few) = absurd (omega (arith, four, few))
@@ -73,7 +72,7 @@ refusal_number crowded c (Wrong f) is =
       memory = λ three. absurd (omega (arith, four, three));
       refused = λ _ _. record { fault = f; code_is = refl; extent_is = refl; first = is };
       accepted = fault_accepts_none (fault_code f) four room;
-      last = last;
+      last = omega (arith, last);
     }
 
 -- what was found of a job without a fault is told, unless memory is refused
@@ -93,8 +92,7 @@ no_other_device n (inl is) neither = neither.0 is
 no_other_device n (inr is) neither = neither.1 is
 
 module _ (c : CJob) (small : length c.storage.now ≤ STORAGE_LIMIT) (device : (c.device ≡ 2311) ⊎ (c.device ≡ 2314))
-    (mask : is_mask c.mask ≡ true) (extents : AreExtents (extents_asked c)) (low : 1 ≤ c.limit) (high : c.limit ≤ 65536)
-    (reserved : c.reserved ≡ 0 ∷ 0 ∷ 0 ∷ 0 ∷ []) where
+    (mask : is_mask c.mask ≡ true) (extents : AreExtents (extents_asked c)) (low : 1 ≤ c.limit) (high : c.limit ≤ 65536) where
   no_fault : (f : JobFault) → HasJobFault c f → ⊥
   no_fault StorageTooLarge large = omega (arith, small, large)
   no_fault NotADevice neither = no_other_device c.device device neither
@@ -107,7 +105,6 @@ module _ (c : CJob) (small : length c.storage.now ≤ STORAGE_LIMIT) (device : (
       let e = extent_at (extents_asked c) i w.pair extents.1 w.stands in
       let there = e.1 in let past = w.wrong.1 in omega (arith, there, past)
   no_fault NotALimit bad = bad (low, high)
-  no_fault ReservedNotZero bad = bad reserved
 
 pub right_has_no_fault : RightHasNoFault
-right_has_no_fault c small device mask extents low high reserved = no_fault c small device mask extents low high reserved
+right_has_no_fault c small device mask extents low high = no_fault c small device mask extents low high

@@ -100,4 +100,4 @@ pub record IsAnswerCode (crowded : Type 0) (c : CJob) (code extent : ℕ) : Type
   pub memory : code ≡ codes.MEMORY → HasNoFaultBelow c codes.EXTENT_BACKWARDS
   pub refused : codes.STORAGE_TOO_LARGE ≤ code → code ≢ codes.NO_ROOM → HasFaultCode c code extent
   pub accepted : (code < codes.MEMORY) ⊎ (code ≡ codes.NO_ROOM) → HasNoFault c
-  pub last : code ≤ codes.RESERVED_NOT_ZERO
+  pub last : code ≤ codes.NO_ROOM

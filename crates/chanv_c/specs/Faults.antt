@@ -1,5 +1,5 @@
 -- What can be wrong with a job as C gives it, and which of it counts.
-use Rattle.std.specs.Prelude.{◌≡◌, ◌≢◌, ℕ, ◌<◌, ◌≤◌, ◌⊎◌, false, true, [], ◌∷◌, length}
+use Rattle.std.specs.Prelude.{◌≡◌, ◌≢◌, ℕ, ◌<◌, ◌≤◌, ◌⊎◌, false, true, [], length}
 use Rattle.ckd_core.specs.Extents.{AreExtents}
 use Rattle.ckd_core.specs.Faults.{IsBackwards, IsFirstWrong, IsPastDevice}
 use Rattle.ckd_core.specs.Mask.{is_mask}
@@ -9,7 +9,6 @@ use Rattle.chanv_c.specs.declared.refusal.JobFault.{JobFault}
 use Rattle.chanv_c.specs.declared.refusal.JobFault.TheVariants.{StorageTooLarge, NotADevice}
 use Rattle.chanv_c.specs.declared.refusal.JobFault.TheVariants.{NotAMask, NoExtent, ExtentBackwards}
 use Rattle.chanv_c.specs.declared.refusal.JobFault.TheVariants.{ExtentPastDevice, NotALimit}
-use Rattle.chanv_c.specs.declared.refusal.JobFault.TheVariants.{ReservedNotZero}
 use Rattle.chanv_c.specs.Job.{extents_asked}
 use Rattle.ccw_core.specs.declared.ccw.TheConstants.{STORAGE_LIMIT}
 use Rattle.chanv_c.specs.declared.codes.TheConstants as codes
@@ -24,7 +23,6 @@ HasJobFault c NoExtent = extents_asked c ≡ []
 HasJobFault c (ExtentBackwards i) = IsFirstWrong IsBackwards (extents_asked c) i
 HasJobFault c (ExtentPastDevice i) = IsFirstWrong IsPastDevice (extents_asked c) i
 HasJobFault c NotALimit = IsLimit c.limit → ⊥
-HasJobFault c ReservedNotZero = c.reserved ≢ 0 ∷ 0 ∷ 0 ∷ 0 ∷ []
 
 -- the number of a fault in the header, by whose order the first fault is the one that counts
 abbrev pub fault_code : JobFault → ℕ
@@ -35,7 +33,6 @@ fault_code NoExtent = codes.NO_EXTENT
 fault_code (ExtentBackwards i) = codes.EXTENT_BACKWARDS
 fault_code (ExtentPastDevice i) = codes.EXTENT_PAST_DEVICE
 fault_code NotALimit = codes.NOT_A_LIMIT
-fault_code ReservedNotZero = codes.RESERVED_NOT_ZERO
 
 -- the index of the extent that is wrong, else 0
 abbrev pub fault_extent : JobFault → ℕ
@@ -46,7 +43,6 @@ fault_extent NoExtent = 0
 fault_extent (ExtentBackwards i) = i
 fault_extent (ExtentPastDevice i) = i
 fault_extent NotALimit = 0
-fault_extent ReservedNotZero = 0
 
 -- no fault with a number below n applies
 abbrev pub HasNoFaultBelow : CJob → ℕ → Type 0
@@ -61,7 +57,7 @@ abbrev pub RightHasNoFault : Type 0
 RightHasNoFault =
     (c : CJob) → length c.storage.now ≤ STORAGE_LIMIT → (c.device ≡ 2311) ⊎ (c.device ≡ 2314)
     → is_mask c.mask ≡ true → AreExtents (extents_asked c) → 1 ≤ c.limit → c.limit ≤ 65536
-    → c.reserved ≡ 0 ∷ 0 ∷ 0 ∷ 0 ∷ [] → HasNoFault c
+    → HasNoFault c
 
 -- the fault applies, and none before it
 pub record IsFirstFault (c : CJob) (f : JobFault) : Type 0 where

@@ -13,7 +13,8 @@ use Rattle.chan_walk.specs.Places.{HasMoreThan, entry_number}
 use Rattle.chan_walk.specs.OpenJob.{open_job, IsOpenJob}
 use Rattle.chan_needs.specs.Listed.{AreNeeds, Listed, listed}
 use Rattle.chan_walk.specs.Verdict.{IsVerdict}
-use Rattle.chan_why.specs.Hang.{IsFirstPlace, MayHang}
+use Rattle.chan_why.specs.declared.remarks.Remarks.{Remarks}
+use Rattle.chan_why.specs.Remarks.{AreRemarks}
 use Rattle.chan_needs.specs.Remembered.{HoldsAreas, bytes_in, device_number, total_len}
 use Rattle.chan_needs.specs.declared.layout.Extent.{Extent}
 use Rattle.chanv_c.specs.declared.job.CJob.{CJob}
@@ -49,15 +50,15 @@ pub record IsJudgedOpenly (c : CJob) (v : Verdict) : Type 0 where
   pub verdict : IsVerdict (open_job is_open.job) v
 
 -- some job will do for the program that C asks about, this is what it needs and keeps, and this is
--- the first place at which it may hang
-pub record AreNeedsOf (c : CJob) (n : Listed) (hang : Option Place) : Type 0 where
+-- what it may do
+pub record AreNeedsOf (c : CJob) (n : Listed) (r : Remarks) : Type 0 where
   pub judged : IsJudgedOpenly c Yes
   pub needs : AreNeeds judged.is_open.job n
-  pub hangs : IsFirstPlace (MayHang judged.opened) hang
+  pub remarks : AreRemarks judged.opened r
 
 -- what was found of the program: its needs, or the no of its open job
 abbrev pub IsFoundNeeds : CJob → FoundNeeds → Type 0
-IsFoundNeeds c (found.Needed n hang) = AreNeedsOf c (listed n) hang
+IsFoundNeeds c (found.Needed n r) = AreNeedsOf c (listed n) r
 IsFoundNeeds c (found.NoJob a r) = IsJudgedOpenly c (No a r)
 
 -- ---- what is told
@@ -76,11 +77,15 @@ without_needs v = record {
   keep_count = 0;
   kept_len = 0;
   storage_len = 0;
-  may_hang = 0;
   hangs_at = 0;
+  interrupts_at = 0;
+  ends_chaining_at = 0;
   mask = 0;
+  may_hang = 0;
+  interrupts = 0;
+  ends_chaining = 0;
   hangs_entered = 0;
-  reserved = 0 ∷ 0 ∷ 0 ∷ 0 ∷ [];
+  unused = 0 ∷ 0 ∷ 0 ∷ [];
 }
 
 -- 1 if there is such a place, its address, and how it is entered
@@ -96,10 +101,19 @@ abbrev pub hang_entry : Option Place → ℕ
 hang_entry None = 0
 hang_entry (Some p) = entry_number p.entered
 
--- how long each list is, how many bytes are kept, how long storage is, the mask, and where
--- the program may hang
-abbrev pub needs_for_c : Listed → Option Place → CNeeded
-needs_for_c n hang = record {
+-- 1 if there is an address, and the address, or 0
+abbrev pub is_there : Option ℕ → ℕ
+is_there None = 0
+is_there (Some a) = 1
+
+abbrev pub address_or_zero : Option ℕ → ℕ
+address_or_zero None = 0
+address_or_zero (Some a) = a
+
+-- how long each list is, how many bytes are kept, how long storage is, the mask, and what the
+-- program may do
+abbrev pub needs_for_c : Listed → Remarks → CNeeded
+needs_for_c n r = record {
   verdict = verdict_for_c Yes;
   extent_count = length n.extents;
   fetch_count = length n.fetch;
@@ -107,18 +121,21 @@ needs_for_c n hang = record {
   keep_count = length n.keep;
   kept_len = total_len n.keep;
   storage_len = n.storage_len;
-  may_hang = hang_number hang;
-  hangs_at = hang_address hang;
+  hangs_at = hang_address r.hangs;
+  interrupts_at = address_or_zero r.interrupts;
+  ends_chaining_at = address_or_zero r.ends_chaining;
   mask = n.mask;
-  hangs_entered = hang_entry hang;
-  reserved = 0 ∷ 0 ∷ 0 ∷ 0 ∷ [];
+  may_hang = hang_number r.hangs;
+  interrupts = is_there r.interrupts;
+  ends_chaining = is_there r.ends_chaining;
+  hangs_entered = hang_entry r.hangs;
+  unused = 0 ∷ 0 ∷ 0 ∷ [];
 }
 
 -- some job will do, and this is told of what the program needs
-pub record AreNeedsForC (c : CJob) (n : Listed) (hang : Option Place) (out : CNeeded) : Type 0
-  where
-    pub needs : AreNeedsOf c n hang
-    pub out_is : out ≡ needs_for_c n hang
+pub record AreNeedsForC (c : CJob) (n : Listed) (r : Remarks) (out : CNeeded) : Type 0 where
+  pub needs : AreNeedsOf c n r
+  pub out_is : out ≡ needs_for_c n r
 
 -- no job will do, and this is told: the verdict on the open job
 pub record IsWrittenNo (c : CJob) (out : CNeeded) : Type 0 where
@@ -169,7 +186,7 @@ abbrev pub KeepsOtherAreas : CJob → List Area → Type 0
 KeepsOtherAreas c areas =
     ((e : Refusal) × (e ≢ Memory) × IsRefusal (HasTooManyOpenly c) c e)
     ⊎ ((a : ℕ) × (r : Reason) × IsJudgedOpenly c (No a r))
-    ⊎ ((n : Listed) × (hang : Option Place) × AreNeedsOf c n hang × (n.keep ≢ areas))
+    ⊎ ((n : Listed) × (r : Remarks) × AreNeedsOf c n r × (n.keep ≢ areas))
 
 -- these are the needs over each storage that is as long and holds the bytes that were kept
 abbrev pub AreNeedsWhereHeld : CJob → Listed → List ℕ → Type 0
@@ -184,8 +201,8 @@ pub record AreWrittenNeeds (c : CJob) (out : CNeeded) (runs new_runs : List Exte
     (fetched new_fetched stored new_stored areas new_areas : List Area) (bytes new_bytes : List ℕ)
     : Type 0 where
   pub needs : Listed
-  pub hang : Option Place
-  pub found : AreNeedsForC c needs hang out
+  pub remarks : Remarks
+  pub found : AreNeedsForC c needs remarks out
   pub extents : StandFirst (map extent_for_c needs.extents) runs new_runs
   pub fetch : StandFirst needs.fetch fetched new_fetched
   pub store : StandFirst needs.store stored new_stored
@@ -198,6 +215,6 @@ pub record AreWrittenNeeds (c : CJob) (out : CNeeded) (runs new_runs : List Exte
 pub record HaveTooLittleRoom (c : CJob) (out : CNeeded) (runs : List Extent)
     (fetched stored areas : List Area) (bytes : List ℕ) : Type 0 where
   pub needs : Listed
-  pub hang : Option Place
-  pub found : AreNeedsForC c needs hang out
+  pub remarks : Remarks
+  pub found : AreNeedsForC c needs remarks out
   pub room : HaveRoomForNeeds needs runs fetched stored areas bytes → ⊥

@@ -1,54 +1,35 @@
--- What the answers to C about starts, and about writes of others, promise.
-use Rattle.std.specs.Prelude.{◌≡◌, ℕ, List, [], ◌∷◌, Some, ◌⊎◌}
-use Rattle.std.specs.List.{All, AllWithin}
+-- What the answers to C about starts, about writes of others and about kept bytes promise.
+use Rattle.std.specs.Prelude.{◌≡◌, ℕ, List, Some}
+use Rattle.std.specs.List.{All}
 use Rattle.ccw_core.specs.declared.areas.Area.{Area}
+use Rattle.chan_areas.specs.Merged.{IsLeastOf}
 use Rattle.chan_walk.specs.declared.job.Job.{Job}
 use Rattle.chan_needs.specs.declared.layout.Remembered.{Remembered}
 use Rattle.chan_needs.specs.declared.conflict.Conflict.TheVariants as way
 use Rattle.chan_needs.specs.declared.start.StartRefusal.{StartRefusal}
 use Rattle.chan_needs.specs.declared.start.StartRefusal.TheVariants as why
+use Rattle.chan_needs.specs.declared.start.Start.{Start}
 use Rattle.chan_needs.specs.declared.start.Start.TheVariants as answer
 use Rattle.chan_needs.specs.Needs.{Grants, KeepsProgram}
-use Rattle.chan_needs.specs.Remembered.{HoldsKept, IsInFlightAt, IsKeeperOf, IsRemembered}
+use Rattle.chan_needs.specs.Remembered.{HoldsKept, IsKeeperOf, IsKeptOutside, IsRemembered}
 use Rattle.chan_needs.specs.Start.{IsAnswerOf, IsCompatibleWith, IsFit, StartsWell}
 use Rattle.chanv_c.specs.declared.job.CJob.{CJob}
 use Rattle.chanv_c.specs.declared.start.CRefusal.{CRefusal}
-use Rattle.chanv_c.specs.declared.start.StartReply.{StartReply}
-use Rattle.chanv_c.specs.declared.start.StartReply.TheVariants.{Later, LaterInFlight, Asked}
 use Rattle.chanv_c.specs.Faults.{HasNoFault}
 use Rattle.chanv_c.specs.Job.{IsAskedJob}
 use Rattle.chanv_c.specs.declared.codes.TheConstants as codes
 
 -- ---- whether a program may start
 
--- the program has no field of a later version
-abbrev pub IsOfThisVersion : Remembered → Type 0
-IsOfThisVersion p = p.reserved ≡ 0 ∷ 0 ∷ 0 ∷ 0 ∷ []
-
--- number i is the first in flight that has one
-abbrev pub IsFirstLater : List Remembered → ℕ → Type 0
-IsFirstLater fs i =
-    (f : Remembered) × IsInFlightAt fs i f × AllWithin IsOfThisVersion fs 0 i
-    × (IsOfThisVersion f → ⊥)
-
--- each answer, for the job that is the one that C asks about: only of programs of this version
--- anything else is said
-abbrev pub IsStartReplyUnder : Job → Remembered → List Remembered → StartReply → Type 0
-IsStartReplyUnder j p fs Later = IsOfThisVersion p → ⊥
-IsStartReplyUnder j p fs (LaterInFlight i) = IsOfThisVersion p × IsFirstLater fs i
-IsStartReplyUnder j p fs (Asked s) = IsOfThisVersion p × All IsOfThisVersion fs
-    × IsAnswerOf j p fs s
-
 -- the answer for what C asks; if what C remembers is true, a program with a yes may start; and one
--- of this version that fits has a yes
-pub record IsStartReply (c : CJob) (p : Remembered) (fs : List Remembered) (k : StartReply) : Type 0
+-- that fits has a yes
+pub record IsStartReply (c : CJob) (p : Remembered) (fs : List Remembered) (k : Start) : Type 0
   where
     pub job : Job
     pub asked : IsAskedJob c job
-    pub reply : IsStartReplyUnder job p fs k
-    pub well : k ≡ Asked answer.Yes → StartsWell job p fs
-    pub due :
-        IsOfThisVersion p → All IsOfThisVersion fs → IsFit job p fs → k ≡ Asked answer.Yes
+    pub reply : IsAnswerOf job p fs k
+    pub well : k ≡ answer.Yes → StartsWell job p fs
+    pub due : IsFit job p fs → k ≡ answer.Yes
 
 -- if what C remembers is true, the program may start
 pub record StartsWellFor (c : CJob) (p : Remembered) (fs : List Remembered) : Type 0 where
@@ -58,24 +39,17 @@ pub record StartsWellFor (c : CJob) (p : Remembered) (fs : List Remembered) : Ty
 
 -- if what C remembers of the program of `was` is true, a job without a fault, over storage that
 -- holds what was kept, that grants what the program needs is answered so, provided that the program
--- is compatible with each in flight, and all are of this version
+-- is compatible with each in flight
 abbrev pub StartsIfDue : CJob → Remembered → List Remembered → Type 0 → Type 0
 StartsIfDue c p fs Answered =
     (was job : Job) → IsRemembered was p → IsAskedJob c job → HasNoFault c → KeepsProgram was job
-    → HoldsKept job p → Grants was job → All (IsCompatibleWith p) fs
-    → p.reserved ≡ 0 ∷ 0 ∷ 0 ∷ 0 ∷ [] → All (λ f. f.reserved ≡ 0 ∷ 0 ∷ 0 ∷ 0 ∷ []) fs → Answered
+    → HoldsKept job p → Grants was job → All (IsCompatibleWith p) fs → Answered
 
 -- ---- what is told
 
 -- a refusal's number, and an address or a cylinder
 abbrev pub refused : ℕ → ℕ → CRefusal
-refused code value = record {
-  extent = 0;
-  program = 0;
-  code = code;
-  value = value;
-  reserved = 0 ∷ 0 ∷ 0 ∷ 0 ∷ [];
-}
+refused code value = record { extent = 0; program = 0; code = code; value = value }
 
 -- nothing but which extent is wrong
 abbrev pub no_refusal_for_c : ℕ → CRefusal
@@ -97,30 +71,27 @@ refusal_for_c (why.Conflict i (way.Keeps b)) =
     record (refused codes.REFUSED_KEEPS_STORED_OVER b) { program = i }
 
 -- what is told with an answer
-abbrev pub start_reply_for_c : StartReply → CRefusal
-start_reply_for_c Later = refused codes.REFUSED_RESERVED 0
-start_reply_for_c (LaterInFlight i) =
-    record (refused codes.REFUSED_RESERVED_IN_FLIGHT 0) { program = i }
-start_reply_for_c (Asked answer.Yes) = no_refusal_for_c 0
-start_reply_for_c (Asked (answer.No r)) = refusal_for_c r
+abbrev pub start_for_c : Start → CRefusal
+start_for_c answer.Yes = no_refusal_for_c 0
+start_for_c (answer.No r) = refusal_for_c r
 
 -- the number of an answer in the header
-abbrev pub start_reply_code : StartReply → ℕ
-start_reply_code Later = codes.NO
-start_reply_code (LaterInFlight i) = codes.NO
-start_reply_code (Asked answer.Yes) = codes.YES
-start_reply_code (Asked (answer.No r)) = codes.NO
+abbrev pub start_code : Start → ℕ
+start_code answer.Yes = codes.YES
+start_code (answer.No r) = codes.NO
 
--- ---- who may write
+-- ---- who may write, and who keeps what
 
 -- what is told of the first that keeps a byte, and of the least such byte
 abbrev pub keeper_for_c : ℕ → ℕ → CRefusal
 keeper_for_c i b = record (refused codes.REFUSED_WRITES_OVER_KEPT b) { program = i }
 
--- why others may not write: a program in flight has a field of a later version, or else keeps a
--- byte of the area
+-- others may not write: this is told of the first that keeps a byte of the area
 abbrev pub IsWriteRefused : List Remembered → Area → CRefusal → Type 0
 IsWriteRefused fs a out =
-    ((i : ℕ) × IsFirstLater fs i × (out ≡ start_reply_for_c (LaterInFlight i)))
-    ⊎ (All IsOfThisVersion fs × ((i : ℕ) × (b : ℕ) × IsKeeperOf fs a (Some (i, b))
-    × (out ≡ keeper_for_c i b)))
+    (i : ℕ) × (b : ℕ) × IsKeeperOf fs a (Some (i, b)) × (out ≡ keeper_for_c i b)
+
+-- the program keeps bytes outside the areas: this is told of the least
+abbrev pub KeepsOutsideFor : Remembered → List Area → CRefusal → Type 0
+KeepsOutsideFor p areas out =
+    (b : ℕ) × IsLeastOf (IsKeptOutside p areas) b × (out ≡ refused codes.REFUSED_KEEPS_OUTSIDE b)

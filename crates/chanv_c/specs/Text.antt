@@ -12,7 +12,6 @@ use Rattle.chan_deck.specs.Explanation.{IsExplanationText}
 use Rattle.chanv_c.specs.declared.job.CJob.{CJob}
 use Rattle.chanv_c.specs.declared.text.VerdictText.{VerdictText}
 use Rattle.chanv_c.specs.Job.{IsAskedJob}
-use Rattle.chanv_c.specs.Needs.{IsOpenJobFor}
 use Rattle.chanv_c.specs.declared.codes.TheConstants as codes
 
 -- the verdict on a job, with all that an answer promises, and the text that explains it: of all
@@ -29,10 +28,6 @@ pub record IsTextOn (job : Job) (t : VerdictText) : Type 0 where
 -- it is on the job that C asks about
 abbrev pub IsText : CJob → VerdictText → Type 0
 IsText c t = (job : Job) × IsAskedJob c job × IsTextOn job t
-
--- it is on the open job of the program that C asks about
-abbrev pub IsOpenText : CJob → VerdictText → Type 0
-IsOpenText c t = (opened : Job) × IsOpenJobFor c opened × IsTextOn opened t
 
 -- the number of a verdict in the header
 abbrev pub verdict_code : Verdict → ℕ

@@ -1,5 +1,5 @@
 -- What the explanation to C promises.
-use Rattle.std.specs.Prelude.{◌≡◌, ◌≢◌, ℕ, ◌<◌, List, [], ◌∷◌, ◌++◌, drop, length, map}
+use Rattle.std.specs.Prelude.{◌≡◌, ◌≢◌, ℕ, ◌<◌, List, [], ◌++◌, drop, length, map}
 use Rattle.chan_walk.specs.declared.job.Job.{Job}
 use Rattle.chan_walk.specs.declared.place.Place.{Place}
 use Rattle.chan_walk.specs.declared.verdict.Verdict.{Verdict}
@@ -36,7 +36,6 @@ explanation_for_c x = record {
   second_path_count = length x.witness.second_path.items;
   evidence = cause_for_c x.witness.evidence;
   unused = 0;
-  reserved = 0 ∷ 0 ∷ 0 ∷ 0 ∷ [];
 }
 
 -- only which extent is wrong
@@ -47,7 +46,6 @@ no_explanation_for_c extent = record {
   second_path_count = 0;
   evidence = no_values;
   unused = 0;
-  reserved = 0 ∷ 0 ∷ 0 ∷ 0 ∷ [];
 }
 
 -- the verdict is no, and this is told of its explanation

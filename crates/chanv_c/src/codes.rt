@@ -1,5 +1,5 @@
 //! The numbers of the header, by its names without `CHANV_`: what calls return, and why a program
-//! may not start, nor others write.
+//! may not start, others may not write, or a program keeps too much.
 
 pub(crate) const YES: u32 = 0;
 
@@ -25,9 +25,7 @@ pub(crate) const NOT_A_LIMIT: u32 = 10;
 
 pub(crate) const NO_ROOM: u32 = 11;
 
-pub(crate) const RESERVED_NOT_ZERO: u32 = 12;
-
-pub(crate) const CHANGED_MEANWHILE: u32 = 13;
+pub(crate) const CHANGED_MEANWHILE: u32 = 12;
 
 pub(crate) const REFUSED_OTHER_START: u32 = 1;
 
@@ -51,6 +49,4 @@ pub(crate) const REFUSED_KEEPS_STORED_OVER: u32 = 10;
 
 pub(crate) const REFUSED_WRITES_OVER_KEPT: u32 = 11;
 
-pub(crate) const REFUSED_RESERVED: u32 = 12;
-
-pub(crate) const REFUSED_RESERVED_IN_FLIGHT: u32 = 13;
+pub(crate) const REFUSED_KEEPS_OUTSIDE: u32 = 12;

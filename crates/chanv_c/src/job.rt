@@ -28,8 +28,6 @@ pub struct CJob<'a> {
     pub limit: u32,
     pub device: u16,
     pub mask: u8,
-    /// Room for fields of a later version; 0 means today's behaviour.
-    pub reserved: [u64; 4],
 }
 
 /// The storage, the device and the mask that C names. Storage is borrowed.
@@ -118,9 +116,6 @@ pub(crate) fn make_ready<'a>(alloc: Global, asked: &CJob<'a>) -> Result<ReadyJob
     let Some(limit) = Limit::new(asked.limit) else {
         return Err(Refusal::Wrong(JobFault::NotALimit));
     };
-    if asked.reserved != [0; 4] {
-        return Err(Refusal::Wrong(JobFault::ReservedNotZero));
-    }
     Ok(ReadyJob {
         parts,
         extents,

@@ -16,6 +16,7 @@ ghost use Rattle.chanv_c.specs.Needs.{AreWrittenNeeds, HasTooManyOpenly, HaveRoo
 ghost use Rattle.chanv_c.specs.Needs.{HaveTooLittleRoom, IsFoundNeeds, AsksOverCopy, IsWrittenNo};
 ghost use Rattle.chanv_c.specs.Needs.{KeepsOtherAreas, with_area, with_areas};
 ghost use Rattle.chanv_c.specs.Needs.{StandFirst, without_needs, needs_for_c};
+ghost use Rattle.chanv_c.specs.Needs.{address_or_zero, is_there};
 ghost use Rattle.chanv_c.specs.declared.job.CJob as asked;
 ghost use Rattle.chanv_c.specs.declared.refusal.Refusal.TheVariants.{Memory};
 ghost use Rattle.chanv_c.specs.declared.codes.TheConstants.{MEMORY, NO, NO_ROOM, YES};
@@ -29,8 +30,8 @@ use crate::verify::CVerdict;
 use crate::writing::{entry_number, write_list};
 use ccw_core::{Area, Storage};
 use chan_needs::{Extent, Needs, copy_kept, kept_len, needs_from, or_empty};
-use chan_walk::{Job, OpenJob, Place, Reason, Verdict, survey};
-use chan_why::hang_from;
+use chan_walk::{Job, OpenJob, Reason, Verdict, survey};
+use chan_why::{Remarks, remarks_from};
 use std::alloc::Global;
 
 /// `struct chanv_needed`.
@@ -45,20 +46,28 @@ pub struct CNeeded {
     /// How many bytes are kept.
     pub kept_len: usize,
     pub storage_len: u32,
-    /// 1 if the program may hang, and the first place at which it may: its address, and how the
-    /// program enters it.
-    pub may_hang: u32,
+    /// Of the first place at which the program may hang.
     pub hangs_at: u32,
+    /// Of the first CCW that asks for a program-controlled interruption.
+    pub interrupts_at: u32,
+    /// Of the first No Operation or Recalibrate at which the program ends though chain data is on.
+    pub ends_chaining_at: u32,
     pub mask: u8,
+    /// 1 if there is such a place or CCW, else 0.
+    pub may_hang: u8,
+    pub interrupts: u8,
+    pub ends_chaining: u8,
+    /// How the program enters the first place at which it may hang.
     pub hangs_entered: u8,
-    pub reserved: [u64; 4],
+    /// 0: C has bytes here that no field takes.
+    pub unused: [u8; 3],
 }
 
 /// What the open job shows of a program.
 #[derive(Drop)]
 pub(crate) enum FoundNeeds {
-    /// What it needs and keeps, and the first place at which it may hang.
-    Needed(Needs, Option<Place>),
+    /// What it needs and keeps, and what it may do.
+    Needed(Needs, Remarks),
     /// No job will do: this is the no of the open job.
     NoJob { address: u32, reason: Reason },
 }
@@ -185,8 +194,8 @@ fn needs_over(
         ≡ without_needs (record { extent = 0; address = 0; reason = 0 }) }
     ensures changed { result ≡ CHANGED_MEANWHILE → KeepsOtherAreas still.now copied.now }
 {
-    let (needs, hang) = match needs_of(alloc, still) {
-        Ok(FoundNeeds::Needed(needs, hang)) => (needs, hang),
+    let (needs, remarks) = match needs_of(alloc, still) {
+        Ok(FoundNeeds::Needed(needs, remarks)) => (needs, remarks),
         Ok(FoundNeeds::NoJob { .. }) => {
             *out = without_needs(0, 0, 0);
             return CHANGED_MEANWHILE;
@@ -200,7 +209,7 @@ fn needs_over(
         *out = without_needs(0, 0, 0);
         return CHANGED_MEANWHILE;
     }
-    let found = needs_for_c(&needs, hang);
+    let found = needs_for_c(&needs, remarks);
     *out = found;
     if !have_room(&needs, found.kept_len, extents, fetch, store, keep, kept) {
         return NO_ROOM;
@@ -241,20 +250,44 @@ fn without_needs(extent: usize, address: u32, reason: u32) -> CNeeded
         keep_count: 0,
         kept_len: 0,
         storage_len: 0,
-        may_hang: 0,
         hangs_at: 0,
+        interrupts_at: 0,
+        ends_chaining_at: 0,
         mask: 0,
+        may_hang: 0,
+        interrupts: 0,
+        ends_chaining: 0,
         hangs_entered: 0,
-        reserved: [0; 4],
+        unused: [0; 3],
     }
 }
 
-/// The answer about needs and the first place at which the program may hang, without the lists.
-fn needs_for_c(needs: &Needs, hang: Option<Place>) -> CNeeded
-    requires { IsMerged needs.now.keep.items }
-    ensures { result ≡ needs_for_c (listed needs.now) hang }
+/// Whether there is an address, as C is told: 1 or 0.
+fn is_there(address: Option<u32>) -> u8
+    ensures { result ≡ is_there address }
 {
-    let (may_hang, hangs_at, hangs_entered) = match hang {
+    match address {
+        Some(_) => 1,
+        None => 0,
+    }
+}
+
+/// The address, or 0 if there is none.
+fn address_or_zero(address: Option<u32>) -> u32
+    ensures { result ≡ address_or_zero address }
+{
+    match address {
+        Some(address) => address,
+        None => 0,
+    }
+}
+
+/// The answer about needs and about what the program may do, without the lists.
+fn needs_for_c(needs: &Needs, remarks: Remarks) -> CNeeded
+    requires { IsMerged needs.now.keep.items }
+    ensures { result ≡ needs_for_c (listed needs.now) remarks }
+{
+    let (may_hang, hangs_at, hangs_entered) = match remarks.hangs {
         Some(place) => (1, place.address, entry_number(place.entered)),
         None => (0, 0, 0),
     };
@@ -270,11 +303,15 @@ fn needs_for_c(needs: &Needs, hang: Option<Place>) -> CNeeded
         keep_count: needs.keep.len(),
         kept_len: kept_len(&needs.keep),
         storage_len: needs.storage_len,
-        may_hang,
         hangs_at,
+        interrupts_at: address_or_zero(remarks.interrupts),
+        ends_chaining_at: address_or_zero(remarks.ends_chaining),
         mask: needs.mask.byte(),
+        may_hang,
+        interrupts: is_there(remarks.interrupts),
+        ends_chaining: is_there(remarks.ends_chaining),
         hangs_entered,
-        reserved: [0; 4],
+        unused: [0; 3],
     }
 }
 
@@ -339,7 +376,7 @@ fn found_on(alloc: Global, asked: &CJob<'_>, job: &Job, opened: &Job) -> Result<
     match survey.verdict() {
         Verdict::Yes => {
             let needs = needs_from(alloc, opened, &survey)?;
-            Ok(FoundNeeds::Needed(needs, hang_from(alloc, &survey)?))
+            Ok(FoundNeeds::Needed(needs, remarks_from(alloc, &survey)?))
         }
         Verdict::No { address, reason } => Ok(FoundNeeds::NoJob { address, reason }),
     }

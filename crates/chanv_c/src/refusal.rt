@@ -6,7 +6,7 @@ ghost use Rattle.chanv_c.specs.Faults.{fault_code, fault_extent};
 
 use crate::codes::{
     EXTENT_BACKWARDS, EXTENT_PAST_DEVICE, MEMORY, NO_EXTENT, NOT_A_DEVICE, NOT_A_LIMIT, NOT_A_MASK,
-    RESERVED_NOT_ZERO, STORAGE_TOO_LARGE, TOO_MANY_PLACES,
+    STORAGE_TOO_LARGE, TOO_MANY_PLACES,
 };
 use chan_walk::WalkError;
 use std::alloc::AllocError;
@@ -28,8 +28,6 @@ pub enum JobFault {
     ExtentPastDevice(usize),
     /// The limit is 0, or above 65,536.
     NotALimit,
-    /// `reserved` isn't 0: the caller goes by a later version.
-    ReservedNotZero,
 }
 
 impl JobFault {
@@ -45,7 +43,6 @@ impl JobFault {
             JobFault::ExtentBackwards(_) => EXTENT_BACKWARDS,
             JobFault::ExtentPastDevice(_) => EXTENT_PAST_DEVICE,
             JobFault::NotALimit => NOT_A_LIMIT,
-            JobFault::ReservedNotZero => RESERVED_NOT_ZERO,
         }
     }
 

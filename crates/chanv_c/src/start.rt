@@ -1,29 +1,28 @@
-//! Whether a program that C remembers may start, and whether others may write meanwhile.
+//! Whether a program that C remembers may start, whether others may write meanwhile, and whether it
+//! keeps only bytes of some areas.
 
-ghost use Rattle.std.specs.Prelude.{◌≡◌, ◌≢◌, ◌≤◌, ◌<◌, ◌↔◌, ◌⊎◌, None, IfErr, IfOk, IsTrue};
-ghost use Rattle.std.specs.Prelude.{MatchOption, OnOk, [], ◌∷◌};
-ghost use Rattle.std.specs.List.{All};
-ghost use Rattle.chan_needs.specs.Remembered.{IsKeeperOf, WritesWell};
+ghost use Rattle.std.specs.Prelude.{◌≡◌, ◌≢◌, ◌≤◌, ◌<◌, ◌⊎◌, ℕ, None, IfErr, IfOk, OnOk};
+ghost use Rattle.chan_needs.specs.Remembered.{IsKeeperOf, IsKeptOutside, SparesOutside, WritesWell};
+ghost use Rattle.chan_needs.specs.declared.start.Start as declared;
 ghost use Rattle.chanv_c.specs.Answers.{IsAnswerCode, IsRefusal};
 ghost use Rattle.chanv_c.specs.Faults.{HasNoFault};
 ghost use Rattle.chanv_c.specs.Start as specs;
-ghost use Rattle.chanv_c.specs.Start.{IsStartReply, IsFirstLater, IsOfThisVersion, IsWriteRefused};
-ghost use Rattle.chanv_c.specs.Start.{StartsIfDue, StartsWellFor, start_reply_code};
-ghost use Rattle.chanv_c.specs.Start.{start_reply_for_c, no_refusal_for_c, refusal_for_c};
-ghost use Rattle.chanv_c.specs.declared.start.StartReply as declared;
+ghost use Rattle.chanv_c.specs.Start.{IsStartReply, IsWriteRefused, KeepsOutsideFor, StartsIfDue};
+ghost use Rattle.chanv_c.specs.Start.{StartsWellFor, no_refusal_for_c, refusal_for_c};
+ghost use Rattle.chanv_c.specs.Start.{start_code, start_for_c};
 ghost use Rattle.chanv_c.specs.declared.codes.TheConstants.{MEMORY, NO, NO_ROOM, YES};
 ghost use Rattle.chanv_c.specs.declared.codes.TheConstants.{STORAGE_TOO_LARGE};
 
 use crate::codes::{
-    NO, REFUSED_CHANGED, REFUSED_KEEPS_STORED_OVER, REFUSED_MASK, REFUSED_NO_CYLINDER,
-    REFUSED_NOT_FETCHABLE, REFUSED_NOT_STORABLE, REFUSED_OTHER_DEVICE, REFUSED_OTHER_LENGTH,
-    REFUSED_OTHER_START, REFUSED_RESERVED, REFUSED_RESERVED_IN_FLIGHT, REFUSED_STORES_OVER_KEPT,
-    REFUSED_WRITES_OVER_KEPT, YES,
+    MEMORY, NO, REFUSED_CHANGED, REFUSED_KEEPS_OUTSIDE, REFUSED_KEEPS_STORED_OVER, REFUSED_MASK,
+    REFUSED_NO_CYLINDER, REFUSED_NOT_FETCHABLE, REFUSED_NOT_STORABLE, REFUSED_OTHER_DEVICE,
+    REFUSED_OTHER_LENGTH, REFUSED_OTHER_START, REFUSED_STORES_OVER_KEPT, REFUSED_WRITES_OVER_KEPT,
+    YES,
 };
 use crate::job::{CJob, make_ready};
 use crate::refusal::Refusal;
 use ccw_core::Area;
-use chan_needs::{Conflict, Remembered, Start, StartRefusal, may_start, may_write};
+use chan_needs::{Conflict, Remembered, Start, StartRefusal, kept_outside, may_start, may_write};
 use std::alloc::Global;
 
 /// `struct chanv_refusal`.
@@ -34,7 +33,6 @@ pub struct CRefusal {
     pub program: usize,
     pub code: u32,
     pub value: u32,
-    pub reserved: [u64; 4],
 }
 
 /// Whether a remembered program may start under the job, together with the programs in flight:
@@ -50,9 +48,9 @@ pub extern "C" fn chanv_check_start(
     program: &Remembered<'_>,
     out: &mut CRefusal,
 ) -> u32
-    ensures answer { result ≤ NO → (k : declared.StartReply)
+    ensures answer { result ≤ NO → (k : declared.Start)
         × IsStartReply job.now program.now in_flight.now k
-        × (result ≡ start_reply_code k) × (out.new ≡ start_reply_for_c k) }
+        × (result ≡ start_code k) × (out.new ≡ start_for_c k) }
 
     // If what is remembered is true, a program with a yes may start.
     ensures well { result ≡ YES → StartsWellFor job.now program.now in_flight.now }
@@ -61,17 +59,15 @@ pub extern "C" fn chanv_check_start(
     ensures due { StartsIfDue job.now program.now in_flight.now
         ((result ≡ YES) ⊎ (result ≡ MEMORY)) }
 
-    ensures version { result ≡ YES → (program.now.reserved ≡ 0 ∷ 0 ∷ 0 ∷ 0 ∷ [])
-        × All (λ f. f.reserved ≡ 0 ∷ 0 ∷ 0 ∷ 0 ∷ []) in_flight.now }
     ensures number { IsAnswerCode ⊥ job.now result out.new.extent }
     ensures room { result ≢ NO_ROOM }
     ensures nothing { NO < result → out.new ≡ no_refusal_for_c out.new.extent }
     ensures no_extent { result < STORAGE_TOO_LARGE → out.new.extent ≡ 0 }
 {
     match start_reply(alloc, job, in_flight, program) {
-        Ok(reply) => {
-            *out = start_reply_for_c(reply);
-            start_reply_code(reply)
+        Ok(start) => {
+            *out = start_for_c(start);
+            start_code(start)
         }
         Err(refusal) => {
             *out = no_refusal_for_c(refusal.extent());
@@ -80,9 +76,9 @@ pub extern "C" fn chanv_check_start(
     }
 }
 
-/// Whether others may write to the area now: `YES` if each program in flight is of this version and
-/// keeps no byte of the area; otherwise `NO`, with the first refusal in `out`. The call takes no
-/// memory.
+/// Whether others may write to the area now: `YES` if no program in flight keeps a byte of it;
+/// otherwise `NO`, with the first program that does and its least such byte in `out`. The call
+/// takes no memory.
 #[unsafe(no_mangle)]
 pub extern "C" fn chanv_check_write(
     in_flight: &[Remembered<'_>],
@@ -90,10 +86,7 @@ pub extern "C" fn chanv_check_write(
     out: &mut CRefusal,
 ) -> u32
     ensures spared { result ≡ YES → IsKeeperOf in_flight.now area.now None }
-    ensures version { result ≡ YES
-        → All (λ f. f.reserved ≡ 0 ∷ 0 ∷ 0 ∷ 0 ∷ []) in_flight.now }
-    ensures free { IsKeeperOf in_flight.now area.now None
-        → All (λ f. f.reserved ≡ 0 ∷ 0 ∷ 0 ∷ 0 ∷ []) in_flight.now → result ≡ YES }
+    ensures free { IsKeeperOf in_flight.now area.now None → result ≡ YES }
 
     // If what is remembered of those in flight is true, the history goes on with what is written.
     ensures well { result ≡ YES → WritesWell in_flight.now area.now }
@@ -102,10 +95,6 @@ pub extern "C" fn chanv_check_write(
     ensures nothing { result ≡ YES → out.new ≡ no_refusal_for_c 0 }
     ensures codes { result ≤ NO }
 {
-    if let Some(number) = first_later(in_flight) {
-        *out = start_reply_for_c(StartReply::LaterInFlight(number));
-        return NO;
-    }
     match may_write(in_flight, *area) {
         None => {
             *out = no_refusal_for_c(0);
@@ -121,15 +110,30 @@ pub extern "C" fn chanv_check_write(
     }
 }
 
-/// The answer to the question whether a program may start.
-#[derive(Clone, Copy)]
-pub(crate) enum StartReply {
-    /// It has fields of a later version.
-    Later,
-    /// The program in flight with this number is the first with fields of a later version.
-    LaterInFlight(usize),
-    /// All programs are of this version, and this is the answer.
-    Asked(Start),
+/// Whether a program keeps only bytes of these areas: `YES` if each byte that it keeps lies in one
+/// of them; `NO` if not, with the least byte that doesn't in `out`; `MEMORY` if memory ran out.
+#[unsafe(no_mangle)]
+pub extern "C" fn chanv_check_kept(
+    alloc: Global,
+    program: &Remembered<'_>,
+    areas: &[Area],
+    out: &mut CRefusal,
+) -> u32
+    ensures inside { result ≡ YES → (b : ℕ) → IsKeptOutside program.now areas.now b → ⊥ }
+    ensures spared { result ≡ YES → SparesOutside program.now areas.now }
+    ensures outside { result ≡ NO → KeepsOutsideFor program.now areas.now out.new }
+    ensures nothing { result ≢ NO → out.new ≡ no_refusal_for_c 0 }
+    ensures codes { (result ≤ NO) ⊎ (result ≡ MEMORY) }
+{
+    *out = no_refusal_for_c(0);
+    match kept_outside(alloc, program, areas) {
+        Ok(None) => YES,
+        Ok(Some(byte)) => {
+            *out = refused(REFUSED_KEEPS_OUTSIDE, byte);
+            NO
+        }
+        Err(_) => MEMORY,
+    }
 }
 
 /// A refusal that names no program.
@@ -141,7 +145,6 @@ fn refused(code: u32, value: u32) -> CRefusal
         program: 0,
         code,
         value,
-        reserved: [0; 4],
     }
 }
 
@@ -180,27 +183,22 @@ fn refusal_for_c(refusal: StartRefusal) -> CRefusal
 }
 
 /// The struct that goes with an answer.
-fn start_reply_for_c(reply: StartReply) -> CRefusal
-    ensures { result ≡ start_reply_for_c reply }
+fn start_for_c(start: Start) -> CRefusal
+    ensures { result ≡ start_for_c start }
 {
-    match reply {
-        StartReply::Later => refused(REFUSED_RESERVED, 0),
-        StartReply::LaterInFlight(program) => CRefusal {
-            program,
-            ..refused(REFUSED_RESERVED_IN_FLIGHT, 0)
-        },
-        StartReply::Asked(Start::Yes) => no_refusal_for_c(0),
-        StartReply::Asked(Start::No(refusal)) => refusal_for_c(refusal),
+    match start {
+        Start::Yes => no_refusal_for_c(0),
+        Start::No(refusal) => refusal_for_c(refusal),
     }
 }
 
 /// The number of an answer in the header.
-fn start_reply_code(reply: StartReply) -> u32
-    ensures { result ≡ start_reply_code reply }
+fn start_code(start: Start) -> u32
+    ensures { result ≡ start_code start }
 {
-    match reply {
-        StartReply::Asked(Start::Yes) => YES,
-        _ => NO,
+    match start {
+        Start::Yes => YES,
+        Start::No(_) => NO,
     }
 }
 
@@ -210,38 +208,12 @@ fn start_reply(
     asked: &CJob<'_>,
     in_flight: &[Remembered<'_>],
     program: &Remembered<'_>,
-) -> Result<StartReply, Refusal>
+) -> Result<Start, Refusal>
     ensures answer { IfOk result (IsStartReply asked.now program.now in_flight.now) }
     ensures right { OnOk result (HasNoFault asked.now) }
     ensures refusal { IfErr result (IsRefusal ⊥ asked.now) }
 {
     let ready = make_ready(alloc, asked)?;
     let job = ready.job(asked);
-    if !is_of_this_version(program) {
-        return Ok(StartReply::Later);
-    }
-    if let Some(number) = first_later(in_flight) {
-        return Ok(StartReply::LaterInFlight(number));
-    }
-    let start = may_start(alloc, &job, program, in_flight)?;
-    Ok(StartReply::Asked(start))
-}
-
-/// Whether a program has no field of a later version.
-fn is_of_this_version(program: &Remembered<'_>) -> bool
-    ensures { IsTrue result ↔ IsOfThisVersion program.now }
-{
-    program.reserved == [0; 4]
-}
-
-/// The number of the first program in flight that has a field of a later version.
-fn first_later(in_flight: &[Remembered<'_>]) -> Option<usize>
-    ensures { MatchOption result (All IsOfThisVersion in_flight.now) (IsFirstLater in_flight.now) }
-{
-    for i in 0..in_flight.len() {
-        if !is_of_this_version(&in_flight[i]) {
-            return Some(i);
-        }
-    }
-    None
+    Ok(may_start(alloc, &job, program, in_flight)?)
 }

@@ -6,8 +6,7 @@ ghost use Rattle.chan_walk.specs.declared.error.WalkError.TheVariants as walk;
 ghost use Rattle.chanv_c.specs.Answers.{HasTooMany, IsAnswerCode, IsRefusal};
 ghost use Rattle.chanv_c.specs.Faults.{HasNoFault};
 ghost use Rattle.chanv_c.specs.declared.text.VerdictText as declared;
-ghost use Rattle.chanv_c.specs.Needs.{HasTooManyOpenly};
-ghost use Rattle.chanv_c.specs.Text.{IsOpenText, IsText, IsTextOn, IsWrittenWhole, IsTextTooLong};
+ghost use Rattle.chanv_c.specs.Text.{IsText, IsTextOn, IsWrittenWhole, IsTextTooLong};
 ghost use Rattle.chanv_c.specs.Text.{verdict_code};
 ghost use Rattle.chanv_c.specs.declared.codes.TheConstants.{NO, NO_ROOM};
 
@@ -16,7 +15,7 @@ use crate::job::{CJob, make_ready};
 use crate::refusal::Refusal;
 use crate::writing::write_list;
 use chan_deck::explanation_text;
-use chan_walk::{Job, OpenJob, Verdict, WalkError, survey};
+use chan_walk::{Job, Verdict, WalkError, survey};
 use chan_why::witness_from;
 use std::alloc::Global;
 
@@ -47,32 +46,6 @@ pub extern "C" fn chanv_text(
     ensures no_len { NO < result → result ≢ NO_ROOM → len.new ≡ 0 }
 {
     match text_on_job(alloc, job) {
-        Ok(found) => write_text(&found, buffer, len),
-        Err(refusal) => {
-            *len = 0;
-            refusal.code()
-        }
-    }
-}
-
-/// Like `chanv_text`, but about the open job of the job's program. So after a no of `chanv_needs`
-/// the text says why no job will do. 2 counts the places that are reachable under the open job.
-#[unsafe(no_mangle)]
-pub extern "C" fn chanv_open_text(
-    alloc: Global,
-    job: &CJob<'_>,
-    buffer: &mut [u8],
-    len: &mut usize,
-) -> u32
-    ensures written { result ≤ NO → (t : declared.VerdictText) × IsOpenText job.now t
-        × (result ≡ verdict_code t.verdict) × IsWrittenWhole t len.new buffer.old buffer.new }
-    ensures room { result ≡ NO_ROOM → (t : declared.VerdictText) × IsOpenText job.now t
-        × IsTextTooLong t len.new buffer.old }
-    ensures kept { NO < result → buffer.new ≡ buffer.old }
-    ensures number { (extent : ℕ) × IsAnswerCode (HasTooManyOpenly job.now) job.now result extent }
-    ensures no_len { NO < result → result ≢ NO_ROOM → len.new ≡ 0 }
-{
-    match text_on_open_job(alloc, job) {
         Ok(found) => write_text(&found, buffer, len),
         Err(refusal) => {
             *len = 0;
@@ -116,17 +89,6 @@ fn text_on_job(alloc: Global, asked: &CJob<'_>) -> Result<VerdictText, Refusal>
 {
     let ready = make_ready(alloc, asked)?;
     Ok(text_on(alloc, &ready.job(asked))?)
-}
-
-/// The text on the open job of the program that C asks about.
-fn text_on_open_job(alloc: Global, asked: &CJob<'_>) -> Result<VerdictText, Refusal>
-    ensures answer { IfOk result (IsOpenText asked.now) }
-    ensures right { OnOk result (HasNoFault asked.now) }
-    ensures refusal { IfErr result (IsRefusal (HasTooManyOpenly asked.now) asked.now) }
-{
-    let ready = make_ready(alloc, asked)?;
-    let open = OpenJob::of(alloc, &ready.job(asked))?;
-    Ok(text_on(alloc, &open.job())?)
 }
 
 /// The verdict on a job, with the text that explains it.

@@ -30,7 +30,6 @@ pub struct CExplanation {
     pub evidence: CEvidence,
     /// 0: C has bytes here that no field takes.
     pub unused: u32,
-    pub reserved: [u64; 4],
 }
 
 /// The verdict on a job, and what shows it.
@@ -125,7 +124,6 @@ fn no_explanation_for_c(extent: usize) -> CExplanation
         second_path_count: 0,
         evidence: NO_VALUES,
         unused: 0,
-        reserved: [0; 4],
     }
 }
 
@@ -139,7 +137,6 @@ fn explanation_for_c(found: &WitnessedVerdict) -> CExplanation
         second_path_count: found.witness.second_path.len(),
         evidence: cause_for_c(found.witness.evidence),
         unused: 0,
-        reserved: [0; 4],
     }
 }
 

@@ -43,7 +43,6 @@ fn are_so(alloc: Global, needs: &Needs, job: &Job) -> bool {
         kept: &kept,
         start: job.start,
         device: 2314,
-        reserved: [0; 4],
     };
     kept[0] == 0x31 && may_start(alloc, job, &program, &[]) == Ok(Start::Yes)
 }

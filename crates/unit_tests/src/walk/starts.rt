@@ -28,7 +28,6 @@ fn flight<'a>(store: &'a [Area], keep: &'a [Area]) -> Remembered<'a> {
         kept: &[],
         start: 0,
         device: 0,
-        reserved: [0; 4],
     }
 }
 
@@ -69,7 +68,6 @@ pub(crate) fn is_answered(alloc: Global, job: &Job, right: usize, answer: Start)
         kept: &kept,
         start: if right > 0 { 0x800 } else { 0x808 },
         device: if right > 1 { 2314 } else { 2311 },
-        reserved: [0; 4],
     };
     let keep = if right > 8 { 0xC00 } else { 0xA4F };
     let keeps = [area(keep, 8)];

@@ -29,7 +29,7 @@ returns-in-Yes-clause-found c =
         verdict = (c.requires.verdict Yes).0 answer.verdict;
       };
       needs = c.in_ok-needs-in-Yes.ensures c.args.job.now c.requires.opened.program;
-      hangs = c.in_ok-hang_from-in-Yes.ensures c.args.opened.now c.in_ok-survey.ensures.survey;
+      remarks = c.in_ok-remarks_from-in-Yes.ensures c.args.opened.now c.in_ok-survey.ensures.survey;
     }
 
 pub returns-clause-found : goal.returns-clause-found

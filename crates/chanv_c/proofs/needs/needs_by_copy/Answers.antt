@@ -22,7 +22,7 @@ returns-clause-quiet c = λ e.
     let long = c.if-not-copy_areas.ensures.length (search rules) in
     nothing_changed c.args.job.now (listed c.in-Ok-Needed.needs) c.in-Ok-Needed.field-0-1 c.as_slice-copied.result.now c.args.copy.now c.copy_areas.new.copy
     found c.as_slice-copied.ensures.value long (c.if-not-copy_areas.ensures.copied (search rules)) (c.needs_over.ensures.changed e)
-    (record { storage = refl; same_length = long.1 ∙ long.0; start = refl; device = refl; limit = refl }) c.in-Ok-Needed.ensures.right refl refl refl
+    (record { storage = refl; same_length = long.1 ∙ long.0; start = refl; device = refl; limit = refl }) c.in-Ok-Needed.ensures.right refl refl
 
 pub returns-clause-agrees : goal.returns-clause-agrees
 returns-clause-agrees c = λ e.

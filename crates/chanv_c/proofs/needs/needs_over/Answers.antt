@@ -21,7 +21,7 @@ extents_of_pairs (r ∷ runs) = ap (λ rest. r ∷ rest) (extents_of_pairs runs)
 pub returns-then-not-have_room-clause-room : goal.returns-then-not-have_room-clause-room
 returns-then-not-have_room-clause-room c = λ _. record {
   needs = listed c.in-Ok-Needed.needs;
-  hang = c.in-Ok-Needed.hang;
+  remarks = c.in-Ok-Needed.remarks;
   found = record {
     needs = subst (IsFoundNeeds c.args.still.now) c.in-Ok-Needed.field-0-is c.in-Ok-Needed.ensures.answer;
     out_is = c.needs_for_c-found.ensures;
@@ -36,7 +36,7 @@ returns-clause-yes c = λ _.
     c.as_slice-6.ensures.value c.copy_kept_bytes.ensures.held in (
       record {
         needs = listed c.in-Ok-Needed.needs;
-        hang = c.in-Ok-Needed.hang;
+        remarks = c.in-Ok-Needed.remarks;
         found = record { needs = needs; out_is = c.needs_for_c-found.ensures };
         extents = subst (λ (l : List Extent). StandFirst l c.args.extents.now c.write_list.new.room)
             (c.as_slice-2.ensures.value ∙ sym (extents_of_pairs c.in-Ok-Needed.needs.extents.items)) c.write_list.ensures;
@@ -46,7 +46,7 @@ returns-clause-yes c = λ _.
         kept = subst (λ (l : List Area). StandFirst (bytes_in c.args.still.now.storage.now l) c.args.kept.now c.copy_kept_bytes.new.kept)
             c.as_slice-6.ensures.value c.copy_kept_bytes.ensures.copied;
         held = held;
-        stays = where_held c.args.still.now (listed c.in-Ok-Needed.needs) c.in-Ok-Needed.hang c.copy_kept_bytes.new.kept needs held;
+        stays = where_held c.args.still.now (listed c.in-Ok-Needed.needs) c.in-Ok-Needed.remarks c.copy_kept_bytes.new.kept needs held;
       },
       sym c.as_slice.ensures.value ∙ same_areas_is c.as_slice.result.now c.args.copied.now (not-false _ (sym c.ne.ensures ∙ c.if-ne.false)),
     )
@@ -71,7 +71,7 @@ returns-then-ne-clause-changed c = λ _.
     let alike : same_areas now now ≡ true = same_areas-IsEquivalence.refl now in
     inr (inr (
       listed c.in-Ok-Needed.needs,
-      c.in-Ok-Needed.hang,
+      c.in-Ok-Needed.remarks,
       found,
       λ same. both_ways _ (rw (subst (λ (l : List Area). same_areas now l ≡ true) (c.as_slice.ensures.value ∙ same) alike) at c.ne.ensures) c.if-ne.true,
     ))
