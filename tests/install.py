@@ -39,6 +39,7 @@ STAGED = {
     "share/chanv/python/chanv/__init__.py": READ,
     "share/chanv/python/chanv/_c.py": READ,
     "share/chanv/python/chanv/py.typed": READ,
+    "share/chanv/python/chanv/supervisor.py": READ,
     "share/man/man1/chanv.1": READ,
 }
 STAGED_LIBRARIES = {

@@ -1,11 +1,12 @@
 """NULL with a length of 0, for each list of each call by itself and for all of a call at once.
 
-A call has to answer and write the same as with another pointer in NULL's place. The codes come from
+A call has to answer and write the same as with another pointer in NULL's place, also where it may
+be NULL without a length. The codes come from
 the rules: over the search loop, of which 24 bytes are kept, 5 are fetched and 80 stored.
 """
 
 from ctypes import Array, Structure, byref, c_char, c_size_t, c_uint8, c_uint16, c_uint32, c_void_p
-from ctypes import cast, create_string_buffer
+from ctypes import cast
 
 from package import package
 
@@ -23,20 +24,21 @@ CALLS = [
     ("list", OF_JOB, "0 7 0 0 7"),
     ("why", OF_JOB, "1 7 1 1 7"),
     ("text", OF_JOB, "1 7 1 1 7"),
-    ("open_text", OF_JOB, "1 7 0 0 7"),
-    ("needs", OF_JOB, "1 7 0 0 7"),
     ("take_in", OF_JOB, "1 7 0 0 7"),
+    ("take_in_untold", ["len", "out"], "0 0 0"),
     ("start", OF_JOB, "1 7 1 1 7"),
     ("list_into", ["rows"], "11 11"),
     ("why_into", ["path", "second path"], "1 1 1"),
     ("text_into", ["buffer"], "11 11"),
-    ("needs_into", OF_ROWS, "0 11 11 11 11 11"),
+    ("take_in_into", ["memory"], "11 11"),
     ("start_with_rows", OF_ROWS, "0 0 0 0 1 0"),
     ("start_beside_all", OF_ROWS, "1 1 1 1 1 0"),
     ("start_all_beside", OF_ROWS, "1 1 1 1 1 0"),
     ("start_alike", OF_ROWS, "1 1 0 0 1 0"),
     ("write_over", OF_ROWS, "1 1 1 0 1 0"),
     ("write_with_none", ["in flight"], "0 0"),
+    ("kept_elsewhere", OF_ROWS, "1 1 1 0 1 0"),
+    ("kept_nowhere", ["areas"], "1 1"),
     ("find", ["storage", "starts"], "0 11 0"),
 ]
 
@@ -133,31 +135,36 @@ class Asking:
     def text(self):
         return self.text_of(self.library.chanv_text, self.job(), 100)
 
-    def open_text(self):
-        return self.text_of(self.library.chanv_open_text, self.job(), 100)
-
     def text_into(self):
         return self.text_of(self.library.chanv_text, self.full(), 0)
 
     def text_of(self, call, job, number):
         return self.counted(call, job, *self.rows(number, c_char, 1024))
 
-    def needs(self):
-        return self.needs_of(self.job(), 100)
-
-    def needs_into(self):
-        return self.needs_of(self.full(), 0)
-
-    def needs_of(self, job, first):
-        kinds = self.c.Extent, self.c.Area, self.c.Area, self.c.Area
-        lists = [word for at, kind in enumerate(kinds) for word in self.rows(first + at, kind)]
-        given = self.c.Needed, *lists, *self.rows(first + 4, c_uint8, 64)
-        return self.written(self.library.chanv_needs, job, *given)
-
     def take_in(self):
-        memory, count = create_string_buffer(1024), c_size_t()
-        given = self.job(), memory, c_size_t(1024), byref(count), byref(self.c.Program())
-        return self.written(self.library.chanv_take_in, *given, self.c.Needed)
+        return self.take_in_of(self.job(), 100)
+
+    def take_in_into(self):
+        return self.take_in_of(self.full(), 0)
+
+    def take_in_of(self, job, first):
+        """The program's addresses are others each time, and its lists are in the memory."""
+        memory, program = self.rows(first, c_char, 1024), self.c.Program()
+        count, out = c_size_t(77), self.c.Needed()
+        given = job, *memory, byref(count), byref(program), byref(out)
+        code, seen = self.written(self.library.chanv_take_in, *given)
+        return code, [*seen, count.value, value_of(out), program.rows.keep.len]
+
+    def take_in_untold(self):
+        """Without the length, without what it says of the program, or without both."""
+        length, out = (
+            None if at in self.empty and self.by_null else byref(kind())
+            for at, kind in enumerate((c_size_t, self.c.Needed))
+        )
+        memory, program = self.rows(100, c_char, 1024), self.c.Program()
+        asked = self.full(), *memory, length, byref(program), out
+        code, seen = self.written(self.library.chanv_take_in, *asked)
+        return code, [*seen, program.start, program.rows.keep.len, program.kept.len]
 
     def start(self):
         """Whether the search loop may start under the job."""
@@ -202,6 +209,16 @@ class Asking:
         given = self.list_at(0, (self.c.Program * 1)(self.program(100)))
         self.held.pop()  # its addresses are others each time
         return self.write_of(*given)
+
+    def kept_elsewhere(self):
+        return self.kept_of(self.program(), (self.c.Area * 1)((0, START)), 1)
+
+    def kept_nowhere(self):
+        return self.kept_of(self.program(100), *self.list_at(0, (self.c.Area * 1)(*ALL)))
+
+    def kept_of(self, program, areas, count):
+        given = program, areas, c_size_t(count), self.c.Refusal
+        return self.written(self.library.chanv_check_kept, *given)
 
     def find(self):
         image, rows = self.bytes_at(0), self.rows(1, c_uint32)

@@ -7,6 +7,7 @@ prefix or checkout, and `pip` installs it without a network in a plain environme
 is left out, by its name, where there is no `venv`, and the check of types where there is no mypy.
 """
 
+import dataclasses
 import importlib
 import mmap
 import os
@@ -26,7 +27,8 @@ from running import Ran, run, text_of
 
 sys.path.insert(0, str(HERE / "model"))
 
-from judging import endless, reachable  # noqa: E402
+from channel import CHAIN_DATA, ccw_at  # noqa: E402
+from judging import command_at, endless, reachable  # noqa: E402
 from writing import job_of  # noqa: E402
 
 JUDGE = EXAMPLES / "python/judge.py"
@@ -44,6 +46,9 @@ end
 
 # the values that are hexadecimal numbers, with their digits
 HEXADECIMAL = {"address": 6, "taker": 6, "storage_len": 7, "code": 2, "mask": 2, "bits": 2}
+
+# the flag for a program-controlled interruption, and the commands that move no data
+INTERRUPTION, IDLE = 0x08, ("no-operation", "recalibrate")
 
 # the ways in which a CCW is entered, in the order of the header
 ENTERED = ("fresh", "in", "out", "search")
@@ -132,7 +137,7 @@ def check_refused(checks, library):
 def answer_on(chanv, job, changes):
     """The code and the index of the extent, or the name of another error; a verdict is its text."""
     try:
-        return str(chanv.verify(chanv.Job(**{**vars(job), **changes})))
+        return str(chanv.verify(dataclasses.replace(job, **changes)))
     except chanv.NoAnswer as why:
         return why.code, why.extent
     except OverflowError as error:
@@ -183,7 +188,7 @@ def why_of(chanv, c, job):
     told, raw = chanv.why(job), c.Explanation()
     if told is None:
         return
-    with chanv._job(job) as made:
+    with chanv._job(job, job.storage) as made:
         c.library.chanv_why(byref(made), None, c_size_t(0), None, c_size_t(0), byref(raw))
     yield from map(row_of, told.path)
     yield " ".join(values_of(raw.evidence))
@@ -228,6 +233,8 @@ def check_needs(checks, chanv, deck, job, verdict):
         checks.expect(f"no start of {deck.name}", False, bool(verdict))
         if wanted is not None:
             checks.expect(f"no job for {deck.name}", wanted, refused.explanation)
+        opened = chanv.text(job.opened())
+        checks.expect(f"the open job of {deck.name}", refused.explanation, opened)
         return
     if wanted is not None:
         lines = [f"mask {program.mask:02X}"]
@@ -242,30 +249,48 @@ def check_needs(checks, chanv, deck, job, verdict):
         place = (first[0], ENTERED[first[1]]) if first else (None, None)
         seen = program.hangs_at, program.hangs_entered
         checks.expect(f"where {deck.name} may hang", place, seen)
+        seen = program.interrupts_at, program.ends_chaining_at
+        checks.expect(f"notes on {deck.name}", first_notes(asked), seen)
     alone, beside = (chanv.may_start(job, program, it) for it in ([], [None, program]))
     checks.expect(f"start of {deck.name}", bool(verdict), bool(alone))
     spared = beside.refusal not in ("stores-over-kept", "keeps-stored-over")
     checks.expect(f"{deck.name} beside itself", bool(verdict), bool(beside) or not spared)
     at, size = program.keep[0]
-    checks.expect(f"write over {deck.name}", "writes-over-kept", chanv.may_write((at, size), [program]).refusal)
+    found = chanv.may_write((at, size), [program]).refusal
+    checks.expect(f"write over {deck.name}", "writes-over-kept", found)
     checks.expect_that(f"write beside {deck.name}", chanv.may_write((at, 0), [program]), "kept")
+
+
+def first_notes(job):
+    """The least addresses of CCWs that ask for an interruption, and that end the program although
+    chain data is on."""
+    found = [(place, ccw_at(job.storage, place.address)) for place in reachable(job)]
+    found = [(place, ccw, command_at(place, ccw)) for place, ccw in found if not ccw.is_transfer()]
+    interrupting = [place.address for place, ccw, _ in found if ccw.flags & INTERRUPTION]
+    ending = [
+        place.address
+        for place, ccw, command in found
+        if command and command.name in IDLE and ccw.flags & CHAIN_DATA
+    ]
+    return min(interrupting, default=None), min(ending, default=None)
 
 
 def check_storage(checks, chanv, judging):
     """Storage of each type, asked about with a copy and without, and a number, which has none."""
-    job = vars(judging.read_deck(text_of(SEARCH_LOOP)))
-    held = bytes(job["storage"])
+    job = judging.read_deck(text_of(SEARCH_LOOP))
+    held = bytes(job.storage)
     with tempfile.TemporaryFile() as file:
         file.write(held)
         file.flush()
         with mmap.mmap(file.fileno(), 0, access=mmap.ACCESS_READ) as mapped:
             for storage in (held, bytearray(held), memoryview(held), mapped):
                 for copy in (True, False):
-                    asked = chanv.Job(**{**job, "storage": storage, "copy": copy})
+                    asked = dataclasses.replace(job, storage=storage, copy=copy)
                     name = f"{type(storage).__name__}, copy={copy}"
                     checks.expect(name, "yes", str(chanv.verify(asked)))
                     checks.expect(f"find in {name}", [0x800], chanv.find(storage, copy=copy))
-    for ask in (lambda: chanv.verify(chanv.Job(**{**job, "storage": 4096})), lambda: chanv.find(8)):
+    number = dataclasses.replace(job, storage=4096)
+    for ask in (lambda: chanv.verify(number), lambda: chanv.needs(number), lambda: chanv.find(8)):
         checks.expect("storage that is a number", "TypeError", error_of(ask))
     for device in (0x10000 + 2314, -1):
         found = error_of(lambda: chanv.find(held, device))
@@ -463,8 +488,9 @@ def check(checks, built):
     chanv = package(built)
     sys.path.insert(0, str(JUDGE.parent))
     judging = importlib.import_module("judge")
-    example = "import chanv, doctest, sys; sys.exit(doctest.testmod(chanv).failed)"
-    checks.expect("the package's example", Ran(0), python(library, example))
+    for name in ("chanv", "chanv.supervisor"):
+        example = f"import {name} as it, doctest, sys; sys.exit(doctest.testmod(it).failed)"
+        checks.expect(f"the example of {name}", Ran(0), python(library, example))
     check_readme(checks, library)
     with tempfile.TemporaryDirectory() as room:
         check_library(checks, library, Path(room))

@@ -9,7 +9,7 @@ widths of numbers are the header's, and what has to come of a change follows fro
 import mmap
 import re
 import sys
-from ctypes import addressof, c_char, c_char_p, c_void_p, cast, sizeof, string_at
+from ctypes import addressof, byref, c_char, c_char_p, c_void_p, cast, sizeof, string_at
 from importlib import util
 
 import python_edges
@@ -18,8 +18,9 @@ from package import FOLDER, package
 from python_edges import EACH, EVERYWHERE, FIELDS, HEADER, LOOP, error_of, job_of, storage_of
 from running import text_of
 
-# calls about a job; `may_start` and `find` are added where they are asked
-ASKED = "verify places why text open_text needs".split()
+# the calls about a job that copy its storage; `find` is added where it is asked, and so are those
+# that never copy
+COPYING, AS_IT_IS = "verify places why text".split(), ["needs", "may_start"]
 
 # a seek, a search, a write and a read, and in its place a CCW that does nothing
 LONG = {
@@ -90,14 +91,15 @@ def storages(held):
 def questions(chanv, storage, program, **copy):
     """Each call that reads storage, by its name."""
     job = chanv.Job(storage, 0x800, EACH, EVERYWHERE, EVERYWHERE, **copy)
-    for name in ASKED:
+    for name in (*COPYING, "needs"):
         yield name, lambda call=getattr(chanv, name): call(job)
     yield "may_start", lambda: chanv.may_start(job, program, [])
     yield "find", lambda: chanv.find(storage, **copy)
 
 
 def check_storage(checks, chanv, watcher):
-    """Each call gets a copy of what can change, of its whole length, and with `copy=False` none."""
+    """Each call gets a copy of what can change, of its whole length, and with `copy=False` none;
+    what is right whatever writes storage never gets one."""
     held, seen = storage_of(LOOP), []
     program = chanv.needs(job_of(chanv, LOOP, 0x800))
 
@@ -109,8 +111,8 @@ def check_storage(checks, chanv, watcher):
     watcher.before = note
     for kind, storage, own in storages(held):
         for how in ({}, {"copy": True}, {"copy": False}):
-            is_own = kind == "bytes" or how == {"copy": False}
             for name, ask in questions(chanv, storage, program, **how):
+                is_own = kind == "bytes" or how == {"copy": False} or name in AS_IT_IS
                 seen.clear()
                 ask()
                 about = f"{name} over {kind}, {how}"
@@ -138,6 +140,10 @@ def grow(storage):
 
 
 # ---- rows and numbers
+
+# what the library says of a program, and isn't asked with
+NOTES = "hangs_at hangs_entered interrupts_at ends_chaining_at".split()
+
 
 def rows_of(handed):
     """The rows of a list that the library gets."""
@@ -169,7 +175,7 @@ def check_rows(checks, chanv, watcher):
             numbers = {"start": 0x800, "limit": 17, "device": 2311, "mask": 0x48}
             error_of(lambda: chanv.verify(chanv.Job(bytes(0x1000), **numbers, **lists)))
             checks.expect(f"{count} rows of {name}", numbers | lists, handed_job(seen[-1][0]._obj))
-    fields = {name: FIELDS[name] for name in FIELDS if not name.startswith("hangs_")}
+    fields = {name: it for name, it in FIELDS.items() if name not in NOTES}
     programs = [chanv.Program(**FIELDS)]
     for name, bits in (("extents", 16), ("fetch", 32), ("store", 32), ("keep", 32)):
         rows = tuple((number, (1 << bits) - 1 - number) for number in range(5))
@@ -187,6 +193,38 @@ def check_rows(checks, chanv, watcher):
         found = handed_program(flying[number + 1])
         checks.expect(f"program {number} in flight, for a start", wanted, found)
         checks.expect(f"program {number} to start", wanted, handed_program(asked._obj))
+        areas = wanted["fetch"]
+        chanv.keeps_only(program, iter(areas))
+        asked, at, count, _ = seen[-1]
+        checks.expect(f"program {number}, what it keeps", wanted, handed_program(asked._obj))
+        found = rows_of(chanv._c.Areas(at, count.value))
+        checks.expect(f"the areas that program {number} may keep", areas, found)
+
+
+def check_no_programs(checks, chanv, watcher):
+    """The rows of the table that are no program are those of the library."""
+    area = chanv._c.Area(0x900, 0x50)
+    for name in ("storing", "keeping"):
+        row = chanv._c.Program()
+        getattr(watcher.real, f"chanv_row_{name}")(byref(area), byref(row))
+        made = getattr(chanv, name)((0x900, 0x50))
+        checks.expect(f"a row {name}", handed_program(row), handed_program(made._made))
+
+
+def check_laid_out(checks, chanv, watcher):
+    """A job's lists are laid out once: two questions at once get the same."""
+    job = job_of(chanv, LOOP, 0x800)
+    program, seen = chanv.needs(job), []
+
+    def note(name, given):
+        made = given[0]._obj
+        seen.append([cast(it.at, c_void_p).value for it in (made.extents, made.fetch, made.store)])
+        if len(seen) == 1:
+            chanv.may_start(job, program, [])
+
+    watcher.before = note
+    chanv.verify(job)
+    checks.expect("where the lists of a job lie", seen[0], seen[1])
 
 
 def widths_of(struct):
@@ -219,7 +257,7 @@ def check_numbers(checks, chanv, watcher):
     job = {"storage": bytes(8), "start": 0, "extents": ()}
     program = {name: FIELDS[name] for name in FIELDS}
     asked = {
-        "job": lambda **more: error_of(lambda: chanv.verify(chanv.Job(**{**job, **more}))),
+        "job": lambda **more: error_of(lambda: chanv.Job(**{**job, **more})),
         "program": lambda **more: error_of(lambda: chanv.Program(**{**program, **more})),
     }
     for struct, ask in asked.items():
@@ -235,8 +273,7 @@ def check_numbers(checks, chanv, watcher):
                     checks.expect(f"{struct}, {name} {pair}", error, type(found))
         largest = {name: (1 << bits) - 1 for name, bits in numbers.items()}
         made = ask(**largest)
-        if struct == "program":
-            error_of(lambda: chanv.may_write((0, 1), [made]))
+        error_of(lambda: chanv.verify(made) if struct == "job" else chanv.may_write((0, 1), [made]))
         handed = handed_job(seen[-1][0]._obj) if struct == "job" else handed_program(seen[-1][0][0])
         found = {name: handed[name] for name in largest}
         checks.expect(f"the largest numbers of a {struct}", largest, found)
@@ -244,6 +281,11 @@ def check_numbers(checks, chanv, watcher):
         for pair in ((number, 0), (0, number)):
             found = error_of(lambda: chanv.may_write(pair, []))
             checks.expect(f"a write to {pair}", error, type(found))
+            found = error_of(lambda: chanv.keeps_only(made, [(0, 0), pair]))
+            checks.expect(f"what lies in {pair}", error, type(found))
+            for row in (chanv.storing, chanv.keeping):
+                found = error_of(lambda: row((0, 0), pair))
+                checks.expect(f"a row for {pair}", error, type(found))
     for number, error in wrong_numbers(16):
         found = error_of(lambda: chanv.find(bytes(8), number))
         checks.expect(f"find on {number!r}", error, type(found))
@@ -277,7 +319,9 @@ def changed(storage, call, texts):
 
 
 def check_needs(checks, chanv, watcher):
-    """The needs are those of the program that the last call saw, and no row is made up."""
+    """The needs are those of the program that the last call saw, and no row is made up: with too
+    little room at first."""
+    chanv._ROOM = 8
     storage = bytearray(storage_of(LONG))
     long, quiet = bytes(storage[0x800:0x828]), chanv.needs(job_of(chanv, LONG, 0x800))
     short = chanv.Program(0x800, 2314, 0x1000, 0x58, (), (), (), [(0x800, 8)], SHORT)
@@ -289,11 +333,28 @@ def check_needs(checks, chanv, watcher):
         ("grows", [SHORT, long, long], quiet),
         ("grows and shrinks", [SHORT, long, SHORT], short),
     ]:
-        watcher.before = changed(storage, "needs", texts)
+        watcher.before = changed(storage, "take_in", texts)
         found = error_of(lambda: chanv.needs(job))
         checks.expect(f"needs of a program that {about}", wanted, found)
     watcher.before = changed(storage, "find", [long, bytes(len(long))])
     checks.expect("starts that went away", [], chanv.find(storage, copy=False))
+
+
+def check_many(checks, chanv, watcher):
+    """The lists of a program that is long, with the room that is usual."""
+    count, calls = 4096, []
+    ccws = [f"06{0x10000 + 32 * at:06X}60000010" for at in range(count - 1)] + ["0601000020000010"]
+    job = chanv.Job(bytes.fromhex("".join(ccws)).ljust(0x40000, b"!"), 0, EACH)
+    watcher.before = lambda name, given: calls.append(name)
+    program = chanv.needs(job)
+    checks.expect("how often a long program is taken in", 2, len(calls))
+    areas = tuple((0x10000 + 32 * at, 16) for at in range(count - 1))
+    seen = program.store, program.keep, program.kept
+    kept = job.storage[: 8 * count]
+    checks.expect("the lists of a long program", (areas, ((0, 8 * count),), kept), seen)
+    calls.clear()
+    chanv.needs(job_of(chanv, LOOP, 0x800))
+    checks.expect("how often a short program is taken in", 1, len(calls))
 
 
 def check_no_job(checks, chanv, watcher):
@@ -301,9 +362,10 @@ def check_no_job(checks, chanv, watcher):
     storage = bytearray(storage_of(LONG))
     job = chanv.Job(storage, 0x800, extents=EACH, copy=False)
     for about, call, text, said in [
-        ("stays", "needs", UNKNOWN, UNKNOWN),
-        ("becomes another no", "needs", ZERO, ZERO),
-        ("goes away after the verdict", "open_text", SHORT, UNKNOWN),
+        ("stays", "take_in", UNKNOWN, UNKNOWN),
+        ("becomes another no", "take_in", ZERO, ZERO),
+        ("goes away after the verdict", "verify", SHORT, UNKNOWN),
+        ("goes away after its text", "text", SHORT, UNKNOWN),
     ]:
         storage[0x800:0x808] = UNKNOWN
         watcher.after = changed(storage, call, [text])
@@ -314,7 +376,7 @@ def check_no_job(checks, chanv, watcher):
         checks.expect_that(f"the path of a no that {about}", row in rest, rest)
         checks.expect(f"storage after a no that {about}", None, error_of(lambda: grow(storage)))
     storage[0x800:0x808] = UNKNOWN
-    watcher.after = changed(storage, "needs", [SHORT])
+    watcher.after = changed(storage, "take_in", [SHORT])
     found = error_of(lambda: chanv.needs(job))
     code = getattr(found, "code", found)
     checks.expect("a no that goes away", chanv.Answer.CHANGED_MEANWHILE, code)
@@ -326,7 +388,10 @@ def check(checks, built):
         check_storage,
         check_release,
         check_rows,
+        check_no_programs,
+        check_laid_out,
         check_numbers,
+        check_many,
         check_needs,
         check_no_job,
     ):

@@ -92,7 +92,8 @@ def check_no_at_zero(checks, chanv):
 
 
 def check_needs_at_zero(checks, chanv, name, job, line):
-    checks.expect(f"{name} at 0, the open text", line, chanv.open_text(job).partition("\n")[0])
+    told = chanv.text(job.opened())
+    checks.expect(f"{name} at 0, the open text", line, told.partition("\n")[0])
     needed = error_of(lambda: chanv.needs(job))
     if line == "yes":
         checks.expect(f"{name} at 0, what it keeps", ((0, 8),), needed.keep)
@@ -129,6 +130,31 @@ def check_refusals_at_zero(checks, chanv):
     checks.expect("a write over 0", (line, False), (str(found), bool(found)))
     found = chanv.may_write((8, 8), [None, program])
     checks.expect("a write beside it", ("yes", True), (str(found), bool(found)))
+    for areas, line in [
+        ([(0, 8)], "yes"),
+        ([(4, 4), (0, 4)], "yes"),
+        (iter([(0, 4), (4, 4)]), "yes"),
+        ([(1, 7)], "no: keeps-outside 000000"),
+        ([(0, 7)], "no: keeps-outside 000007"),
+        ([], "no: keeps-outside 000000"),
+    ]:
+        found = chanv.keeps_only(program, areas)
+        checks.expect(f"kept in {areas}", (line, line == "yes"), (str(found), bool(found)))
+
+
+def check_notes_at_zero(checks, chanv):
+    """What a supervisor may want to refuse, at 000000 and not at all."""
+    rows = [
+        ("060001004800000F", 0, None),  # a read with an interruption, then a No Operation
+        ("03000100A0000001", None, 0),  # a No Operation with chain data
+        ("1300010088000001", 0, 0),  # a Recalibrate with both
+        ("0600010080000008", None, None),  # a read with chain data
+    ]
+    for word, interrupts, ends in rows:
+        program = chanv.needs(job_of(chanv, {0: word, 8: "0300010020000001"}, 0))
+        for name, made in [("itself", program), *copies_of(program)]:
+            seen = made.interrupts_at, made.ends_chaining_at
+            checks.expect(f"notes on {word}, {name}", (interrupts, ends), seen)
 
 
 def check_hang_at_zero(checks, chanv):
@@ -157,7 +183,8 @@ def check_devices(checks, chanv):
         job = job_of(chanv, words, 0x800, device=device)
         checks.expect(f"on a {device}, verify", line, str(chanv.verify(job)))
         checks.expect(f"on a {device}, text", line, chanv.text(job).splitlines()[0])
-        checks.expect(f"on a {device}, open text", line, chanv.open_text(job).splitlines()[0])
+        told = chanv.text(job.opened()).splitlines()[0]
+        checks.expect(f"on a {device}, open text", line, told)
         starts = [] if device == 2311 else [0x800]
         checks.expect(f"on a {device}, find", starts, chanv.find(job.storage, device))
         told, needed = chanv.why(job), error_of(lambda: chanv.needs(job))
@@ -197,8 +224,8 @@ FAULTS = [
     ({"limit": 0}, "NOT_A_LIMIT", 0),
     ({"limit": 65537}, "NOT_A_LIMIT", 0),
 ]
-# the calls that don't tell which extent is wrong
-WITHOUT_EXTENT = ("text", "open_text")
+# the call that doesn't tell which extent is wrong
+WITHOUT_EXTENT = "text"
 
 
 def check_codes(checks, chanv):
@@ -206,7 +233,7 @@ def check_codes(checks, chanv):
     wanted = {name: int(number) for name, number in re.findall(r"CHANV_(\w+) = (\d+)", enum)}
     checks.expect("the codes", wanted, {it.name: int(it) for it in chanv.Answer})
     program = chanv.needs(job_of(chanv, LOOP, 0x800))
-    calls = [getattr(chanv, it) for it in "verify places why text open_text needs".split()]
+    calls = [getattr(chanv, it) for it in "verify places why text needs".split()]
     for changes, name, extent in FAULTS:
         job = dataclasses.replace(job_of(chanv, LOOP, 0x800), **changes)
         for call in (*calls, may_start := lambda it: chanv.may_start(it, program, [])):
@@ -214,7 +241,7 @@ def check_codes(checks, chanv):
             if call is may_start and name == "TOO_MANY_PLACES":
                 checks.expect(about, "yes", str(call(job)))
                 continue
-            told = 0 if call.__name__ in WITHOUT_EXTENT else extent
+            told = 0 if call.__name__ == WITHOUT_EXTENT else extent
             check_no_answer(checks, chanv, about, error_of(lambda: call(job)), name, told)
     for device, size, name in [(2314, SIZE << 12, ""), (2305, SIZE, "NOT_A_DEVICE")]:
         found = error_of(lambda: chanv.find(bytes(size), device))
@@ -259,8 +286,7 @@ def check_limit(checks, chanv):
 
 # the front of a number's name in the header, and the words that the rest isn't
 WORDS = {"reason": "REASON_", "refusal": "REFUSED_", "entered": "ENTERED_"}
-OTHER_WORDS = {"REFUSED_RESERVED": "reserved-not-zero"}
-OTHER_WORDS |= {f"ENTERED_CHAIN_{it}": it.lower() for it in ("IN", "OUT", "SEARCH")}
+OTHER_WORDS = {f"ENTERED_CHAIN_{it}": it.lower() for it in ("IN", "OUT", "SEARCH")}
 # arguments of a seek, and the part of each that isn't allowed with its value
 PARTS = [("0001000A0000", "PART_BIN", 1), ("000000140000", "PART_CYLINDER", 20)]
 PARTS.append(("0000000A0014", "PART_HEAD", 20))
@@ -337,6 +363,8 @@ FIELDS = {
     "kept": b"0123456789",
     "hangs_at": 0x810,
     "hangs_entered": "out",
+    "interrupts_at": 0x818,
+    "ends_chaining_at": 0x820,
 }
 LISTS = ("extents", "fetch", "store", "keep")
 
@@ -379,6 +407,7 @@ def check_jobs(checks, chanv):
         wanted = tuple(tuple(it) for it in lent.values())
         checks.expect("the lists of a job", wanted, held)
         checks.expect("a job, pickled", job, pickle.loads(pickle.dumps(job)))
+    check_opened(checks, chanv, dataclasses.replace(job, limit=17, device=2311, copy=False))
     rows = [[10, 19]]
     job = chanv.Job(storage_of(LOOP), 0x800, rows, lent["fetch"], lent["store"])
     rows[0][0], rows[0][1] = 19, 10
@@ -387,12 +416,24 @@ def check_jobs(checks, chanv):
     checks.expect_that("a job as text", "storage" not in shown and "start=2048" in shown, shown)
 
 
+def check_opened(checks, chanv, job):
+    """The open job grants what the header says, and is otherwise the job itself."""
+    macros = re.findall(r"#define CHANV_(ALL|OPEN)_(\w+) (.*)", text_of(HEADER))
+    numbers = {name: [int(it, 0) for it in re.findall(r"\w+", text)] for _, name, text in macros}
+    whole = (tuple(numbers["STORAGE"]),)
+    wanted = {"extents": (tuple(numbers["CYLINDERS"]),), "fetch": whole, "store": whole}
+    wanted |= {"mask": numbers["MASK"][0]}
+    checks.expect("the open job", dataclasses.replace(job, **wanted), job.opened())
+    checks.expect("the open job grants else than the job", False, job == job.opened())
+
+
 def check_programs(checks, chanv):
     """In flight only a program counts, or None; to start, only a program."""
     job = job_of(chanv, LOOP, 0x800)
     program = chanv.needs(job)
     table = {0x190: program, 0: None}
-    checks.expect("a table's values", "writes-over-kept", chanv.may_write((0x800, 1), table.values()).refusal)
+    found = chanv.may_write((0x800, 1), table.values()).refusal
+    checks.expect("a table's values", "writes-over-kept", found)
     checks.expect("nobody", True, bool(chanv.may_write((0x800, 1), [None])))
     checks.expect("a start beside nobody", True, bool(chanv.may_start(job, program, [None])))
     wrong = [{0: program}, table, [0], [""], [False], [program, 0], [()], [[program]], ["x"]]
@@ -405,6 +446,9 @@ def check_programs(checks, chanv):
     for start in (None, 0, "", [program], job):
         found = error_of(lambda: chanv.may_start(job, start, []))
         checks.expect(f"a start of {type(start).__name__}", TypeError, type(found))
+        found = error_of(lambda: chanv.keeps_only(start, []))
+        checks.expect(f"what {type(start).__name__} keeps", TypeError, type(found))
+    check_rows(checks, chanv, job, program)
     looks_alike = SimpleNamespace(**vars(program))
     found = error_of(lambda: chanv.may_start(job, looks_alike, []))
     checks.expect("a start of what looks like a program", TypeError, type(found))
@@ -412,12 +456,42 @@ def check_programs(checks, chanv):
     checks.expect("a write, what looks like a program in flight", TypeError, type(found))
 
 
+def check_rows(checks, chanv, job, program):
+    """Rows of the table that are no program: they don't start, and others go round them."""
+    over, beside = (0x817, 0x10), (0x818, 0x10)
+    for row, refusal in [
+        (chanv.storing(over), "keeps-stored-over"),
+        (chanv.storing(beside), None),
+        (chanv.storing(beside, over), "keeps-stored-over"),
+        (chanv.keeping((0xA4F, 1)), "stores-over-kept"),
+        (chanv.keeping((0xA50, 1)), None),
+        (chanv.keeping(), None),
+    ]:
+        found = chanv.may_start(job, program, [row]).refusal
+        checks.expect(f"a start beside {row}", refusal, found)
+        found = chanv.may_start(dataclasses.replace(job, start=0), row, []).refusal
+        checks.expect(f"a start of {row}", "other-device", found)
+    checks.expect("a write into a buffer", True, bool(chanv.may_write(over, [chanv.storing(over)])))
+    found = chanv.may_write((0xA, 0xA), [chanv.keeping((0x10, 8))])
+    checks.expect("a write over what is guarded", 0x10, found.value)
+
+
+class Anew:
+    """A table that makes each program anew, so that nothing else holds it."""
+
+    def __init__(self, rows):
+        self.rows = rows
+
+    def __iter__(self):
+        return (dataclasses.replace(it) for it in self.rows)
+
+
 def check_tables(checks, chanv):
     """A table of the programs in flight has to be there, and gives them each time anew."""
     job = job_of(chanv, LOOP, 0x800)
     program = chanv.needs(job)
     over = chanv.needs(job_of(chanv, {0xC00: "0600080020000008"}, 0xC00))
-    ways = [list, tuple, set, collections.deque, lambda rows: dict(enumerate(rows)).values()]
+    ways = [list, tuple, set, collections.deque, lambda rows: dict(enumerate(rows)).values(), Anew]
     for how in ways:
         table = how([over])
         for _ in range(2):
@@ -440,6 +514,7 @@ def check(checks, built):
     for part in (
         check_no_at_zero,
         check_refusals_at_zero,
+        check_notes_at_zero,
         check_hang_at_zero,
         check_devices,
         check_codes,

@@ -26,7 +26,8 @@ from library import LINED, check_layout, check_lines, refuse_growths
 from running import run
 
 # tests of tests/run; Python loads the sanitizer before itself
-IN_PYTHON, LONG_IN_PYTHON = ["nulls", "python_edges", "python_calls"], ["python"]
+IN_PYTHON = ["nulls", "python_edges", "python_calls"]
+LONG_IN_PYTHON = ["python", "python_supervisor"]
 LONG_IN_C = ["changing", "races"]
 # the program of c/ that takes long under sanitizers
 LONG = "memory"

@@ -1,4 +1,4 @@
-"""May a program start, and may others write: the library over random rows, and a second reading.
+"""Starts, writes of others and kept bytes: the library over random rows, and a second reading.
 
 The reading is from the header: what is compared, in which order, and which byte or cylinder is
 named. Rows come from anywhere: they overlap, aren't sorted, are empty or lie past storage; kept
@@ -17,7 +17,7 @@ SIZE = 48
 
 # each answer that random rows lead to
 ANSWERS = """yes other-start other-device other-length changed mask no-cylinder not-fetchable
-    not-storable stores-over-kept keeps-stored-over writes-over-kept""".split()
+    not-storable stores-over-kept keeps-stored-over writes-over-kept keeps-outside""".split()
 
 
 def strictness(mask):
@@ -100,6 +100,11 @@ def keeper_of(area, in_flight):
     return None
 
 
+def outside(program, areas):
+    byte = least(bytes_of(program.keep) - bytes_of(areas))
+    return None if byte is None else ("keeps-outside", byte, None)
+
+
 class Dice(random.Random):
     """What is thrown agrees mostly, so that each refusal has its share."""
 
@@ -142,8 +147,15 @@ class Dice(random.Random):
         )
 
     def in_flight(self, chanv, job):
-        count = self.randrange(4)
-        return [None if self.is_rare() else self.program(chanv, job) for _ in range(count)]
+        return [self.row(chanv, job) for _ in range(self.randrange(4))]
+
+    def row(self, chanv, job):
+        """Mostly a program in flight; or others who write or rely on bytes; or none."""
+        if self.is_rare():
+            return None
+        if self.is_rare():
+            return self.choice([chanv.storing, chanv.keeping])(self.area())
+        return self.program(chanv, job)
 
 
 def told(permission):
@@ -161,5 +173,9 @@ def check(checks, built):
         area = dice.area()
         wanted_write = keeper_of(area, in_flight)
         checks.expect(f"write {number}", wanted_write, told(chanv.may_write(area, in_flight)))
-        seen |= {answer[0] if answer else "yes" for answer in (wanted, wanted_write)}
+        areas = dice.areas(6) if dice.randrange(2) else [(16, SIZE), (0, 16)]
+        wanted_kept = outside(program, areas)
+        checks.expect(f"areas {number}", wanted_kept, told(chanv.keeps_only(program, areas)))
+        answers = wanted, wanted_write, wanted_kept
+        seen |= {answer[0] if answer else "yes" for answer in answers}
     checks.expect("each answer comes", {*ANSWERS}, seen)

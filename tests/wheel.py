@@ -21,7 +21,7 @@ from running import run, text_of
 
 NAME = f"chanv-{version()}"
 ABOUT = f"{NAME}.dist-info"
-PACKAGE = ["__init__.py", "_c.py", "py.typed"]
+PACKAGE = ["__init__.py", "_c.py", "py.typed", "supervisor.py"]
 SOURCES = ["README.md", "backend/building.py", "pyproject.toml"]
 METADATA = f"""Metadata-Version: 2.1
 Name: chanv

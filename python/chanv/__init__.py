@@ -25,17 +25,17 @@ yes
 >>> print(may_write((0x810, 8), in_flight.values()))
 no: writes-over-kept 000810 by program 0
 
-chanv.h has the caller's duties and the premises of these answers. The library is the one that
-CHANV_LIBRARY names, else the one in `lib` of the prefix where this package is installed, or in
-`out` of its checkout, or whatever the system finds under the library's name. It is loaded by the
-first call, which raises WrongLibrary if there is none of this version.
+`chanv.supervisor` has a class that does so. chanv.h has the caller's duties and the premises of
+these answers. The library is the one that CHANV_LIBRARY names, else the one in `lib` of the prefix
+where this package is installed, or in `out` of its checkout, or whatever the system finds under the
+library's name. It is loaded by the first call, which raises WrongLibrary if there is none of this
+version.
 """
 
-from collections.abc import Callable, Collection, Iterator, Sequence
+from collections.abc import Collection, Iterator, Sequence
 from contextlib import contextmanager
-from ctypes import Array, byref, c_char, c_char_p, c_size_t, c_uint16, c_uint32
-from ctypes import create_string_buffer, string_at
-from dataclasses import dataclass, field, fields
+from ctypes import Array, byref, c_char_p, c_size_t, c_uint16, c_uint32, create_string_buffer
+from dataclasses import dataclass, field, fields, replace
 from enum import IntEnum
 from mmap import mmap
 from typing import Any, Union
@@ -57,11 +57,13 @@ __all__ = [
     "Verdict",
     "WrongLibrary",
     "find",
+    "keeping",
+    "keeps_only",
     "may_start",
     "may_write",
     "needs",
-    "open_text",
     "places",
+    "storing",
     "text",
     "verify",
     "why",
@@ -92,11 +94,13 @@ _VALUES = {
 
 # the refusals with an address or a cylinder, and those with a program in flight
 _OVER_KEPT = "stores-over-kept keeps-stored-over writes-over-kept".split()
-_WITH_VALUE = [*"changed no-cylinder not-fetchable not-storable".split(), *_OVER_KEPT]
-_WITH_PROGRAM = [*_OVER_KEPT, "reserved-in-flight"]
+_WITH_VALUE = "changed no-cylinder not-fetchable not-storable keeps-outside".split() + _OVER_KEPT
 
-# the elements of the lists that `chanv_needs` writes, in order, and of the kept bytes
-_LISTED: tuple[Any, ...] = (_c.Extent, _c.Area, _c.Area, _c.Area, c_char)
+# what the open job of a program grants
+_ALL_CYLINDERS, _ALL_STORAGE, _OPEN_MASK = (0, 202), (0, 16777216), 0xC0
+
+# how many bytes `needs` hands in at first, which most programs don't fill
+_ROOM = 1024
 
 
 class Answer(IntEnum):
@@ -114,8 +118,7 @@ class Answer(IntEnum):
     EXTENT_PAST_DEVICE = 9
     NOT_A_LIMIT = 10
     NO_ROOM = 11
-    RESERVED_NOT_ZERO = 12
-    CHANGED_MEANWHILE = 13
+    CHANGED_MEANWHILE = 12
 
 
 _OF_AN_EXTENT = (Answer.EXTENT_BACKWARDS, Answer.EXTENT_PAST_DEVICE)
@@ -144,13 +147,31 @@ class NoJob(Error):
         return f"no job will do: {self.verdict}"
 
 
+class _LaidOut:
+    """What lays its lists out for C once, when it is made. Its fields alone are copied."""
+
+    def _lists(self, *areas: str) -> list[Any]:
+        """Makes the extents and these lists of areas tuples, and lays each out for C."""
+        for name, bits in (("extents", 16), *((it, 32) for it in areas)):
+            object.__setattr__(self, name, _c.pairs(getattr(self, name), bits))
+        extents = _c.extents(getattr(self, "extents"))
+        return [extents, *(_c.areas(getattr(self, name)) for name in areas)]
+
+    def __reduce__(self) -> Any:
+        return type(self), tuple(getattr(self, it.name) for it in fields(self))
+
+
 @dataclass(frozen=True)
-class Job:
+class Job(_LaidOut):
     """A channel program before its start, and all that it may use.
 
-    Each call copies storage that can change, because Python's other threads run meanwhile. With
-    `copy=False` it doesn't: then nothing may write storage from the call to its return. The lists
-    become tuples at once, so that they may come from an iterator.
+    Making a job raises OverflowError if C has no such number. The lists become tuples at once, so
+    that they may come from an iterator.
+
+    `verify`, `places`, `why` and `text` copy storage that can change, because Python's other
+    threads run meanwhile. With `copy=False` they don't: then nothing may write storage from the
+    call to its return. `needs` and `may_start` never copy it: they are right even while other
+    threads write.
     """
 
     storage: Storage = field(repr=False)  # main storage from address 0 on, as it is now
@@ -164,8 +185,15 @@ class Job:
     copy: bool = True
 
     def __post_init__(self) -> None:
-        for name in ("extents", "fetch", "store"):
-            object.__setattr__(self, name, _c.held(getattr(self, name)))
+        numbers = _c.number(self.start, 32), _c.number(self.limit, 32)
+        few = _c.number(self.device, 16), _c.number(self.mask, 8)
+        made = *self._lists("fetch", "store"), *numbers, *few
+        object.__setattr__(self, "_made", made)
+
+    def opened(self) -> "Job":
+        """The open job of the program, which grants all: its text says why no job will do."""
+        cylinders, whole = [_ALL_CYLINDERS], [_ALL_STORAGE]
+        return replace(self, extents=cylinders, fetch=whole, store=whole, mask=_OPEN_MASK)
 
 
 @dataclass(frozen=True)
@@ -202,10 +230,11 @@ class Explanation:
 
 
 @dataclass(frozen=True)
-class Program:
+class Program(_LaidOut):
     """All that is remembered of a program; `needs` makes it, and nothing changes it.
 
-    The lists become tuples at once, so that they may come from an iterator.
+    `storing` and `keeping` make rows of the table that are no program. The lists become tuples at
+    once, so that they may come from an iterator.
     """
 
     start: int
@@ -219,19 +248,16 @@ class Program:
     kept: bytes  # the kept bytes as they were
     hangs_at: int | None = None  # the first address from which on it never ends by itself
     hangs_entered: str | None = None  # and how it enters the CCW there
+    interrupts_at: int | None = None  # the first CCW with a program-controlled interruption
+    # the first No Operation or Recalibrate with chain data, which ends it, but not in each emulator
+    ends_chaining_at: int | None = None
 
     def __post_init__(self) -> None:
-        for name, bits in (("extents", 16), ("fetch", 32), ("store", 32), ("keep", 32)):
-            object.__setattr__(self, name, _c.pairs(getattr(self, name), bits))
         object.__setattr__(self, "kept", bytes(memoryview(self.kept)))
-        areas = (_c.areas(it) for it in (self.fetch, self.store, self.keep))
         numbers = _c.number(self.storage_len, 32), _c.number(self.mask, 8)
-        rows = _c.Rows(_c.extents(self.extents), *areas, *numbers)
+        rows = _c.Rows(*self._lists("fetch", "store", "keep"), *numbers)
         few = _c.number(self.start, 32), _c.number(self.device, 16)
         object.__setattr__(self, "_made", _c.Program(rows, _c.bytes_at(self.kept), *few))
-
-    def __reduce__(self) -> Any:
-        return Program, tuple(getattr(self, it.name) for it in fields(self))
 
 
 @dataclass(frozen=True)
@@ -257,14 +283,13 @@ class Permission:
         return f"no: {self.refusal}{value}{by}"
 
 
-# Each call raises NoAnswer if there is no answer, OverflowError if C has no such number, and
-# TypeError if storage has no bytes.
+# Each call raises NoAnswer if there is no answer, and TypeError if storage has no bytes.
 
 
 def verify(job: Job) -> Verdict:
     """The verdict on a job."""
     out = _c.Verdict()
-    with _job(job) as made:
+    with _job(job, _quiet(job)) as made:
         answer = _c.library.chanv_verify(byref(made), byref(out))
     _must_answer(answer, out.extent)
     return _verdict(out)
@@ -273,7 +298,7 @@ def verify(job: Job) -> Verdict:
 def places(job: Job) -> list[Place]:
     """The places that the program can come to, in order."""
     count, extent, answer, rows = c_size_t(), c_size_t(), _c.NO_ROOM, (_c.Place * 0)()
-    with _job(job) as made:
+    with _job(job, _quiet(job)) as made:
         while answer == _c.NO_ROOM:
             rows = (_c.Place * count.value)()
             given = rows, c_size_t(len(rows)), byref(count), byref(extent)
@@ -286,7 +311,7 @@ def why(job: Job) -> Explanation | None:
     """The explanation of a no, or None after a yes."""
     out, answer = _c.Explanation(), _c.NO_ROOM
     first, second = (_c.Place * 0)(), (_c.Place * 0)()
-    with _job(job) as made:
+    with _job(job, _quiet(job)) as made:
         while answer == _c.NO_ROOM or (len(first), len(second)) != _counts(out):
             first, second = ((_c.Place * count)() for count in _counts(out))
             rooms = first, c_size_t(len(first)), second, c_size_t(len(second))
@@ -301,21 +326,21 @@ def why(job: Job) -> Explanation | None:
 
 def text(job: Job) -> str:
     """The text that explains the verdict, as `chanv why` prints it."""
-    with _job(job) as made:
-        return _text(_c.library.chanv_text, made)
-
-
-def open_text(job: Job) -> str:
-    """The text that explains the verdict if everything is granted."""
-    with _job(job) as made:
-        return _text(_c.library.chanv_open_text, made)
+    length, answer, buffer = c_size_t(), _c.NO_ROOM, create_string_buffer(0)
+    with _job(job, _quiet(job)) as made:
+        while answer == _c.NO_ROOM:
+            buffer = create_string_buffer(length.value)
+            given = buffer, c_size_t(len(buffer)), byref(length)
+            answer = _c.library.chanv_text(byref(made), *given)
+    _must_answer(answer, 0)
+    return buffer.raw[: length.value].decode("ascii")
 
 
 def find(storage: Storage, device: int = 2314, copy: bool = True) -> list[int]:
     """The starts of the channel programs in storage, in order; `copy` as in a job."""
     count, answer, starts = c_size_t(), _c.NO_ROOM, (c_uint32 * 0)()
     number = c_uint16(_c.number(device, 16))
-    with _c.bytes_of(storage, copy) as image:
+    with _c.bytes_of(_c.quiet(storage) if copy else storage) as image:
         while answer == _c.NO_ROOM:
             starts = (c_uint32 * count.value)()
             room = c_size_t(len(starts))
@@ -325,28 +350,29 @@ def find(storage: Storage, device: int = 2314, copy: bool = True) -> list[int]:
 
 
 def needs(job: Job) -> Program:
-    """What the program needs in every job and keeps, to be remembered. It raises NoJob if no job
-    will do, and NoAnswer with CHANGED_MEANWHILE if storage changed during the call; so copy=False
-    is safe here even while other threads write storage. Ask again then."""
-    with _job(job) as made:
-        answer, out, lists = _needed(made)
-        _must_answer(answer, out.verdict.extent)
-        if answer == _c.NO:
-            raise _no_job(made)
-    fetch, store, keep = ([(it.start, it.len) for it in areas] for areas in lists[1:4])
-    return Program(
-        start=made.start,
-        device=made.device,
-        storage_len=out.storage_len,
-        mask=out.mask,
-        extents=[(it.first, it.last) for it in lists[0]],
-        fetch=fetch,
-        store=store,
-        keep=keep,
-        kept=lists[4],
-        hangs_at=out.hangs_at if out.may_hang else None,
-        hangs_entered=_word("entered", out.hangs_entered) if out.may_hang else None,
-    )
+    """What the program needs in every job and keeps, to be remembered. Other threads may write
+    storage meanwhile. It raises NoJob if no job will do, and NoAnswer with CHANGED_MEANWHILE if
+    storage changed during the call: ask again then, but not without end."""
+    made, out = _c.Program(), _c.Needed()
+    answer, length, room = _c.NO_ROOM, c_size_t(_ROOM), create_string_buffer(0)
+    with _job(job, job.storage) as asked:
+        while answer == _c.NO_ROOM:
+            room = create_string_buffer(length.value)
+            given = room, c_size_t(len(room)), byref(length), byref(made), byref(out)
+            answer = _c.library.chanv_take_in(byref(asked), *given)
+    _must_answer(answer, out.verdict.extent)
+    if answer == _c.NO:
+        raise _no_job(job)
+    return _program(made, out)  # the lists are in `room`
+
+
+def keeps_only(program: Program, areas: Pairs) -> Permission:
+    """Whether a program keeps only bytes of these areas, pairs of start and length in any order."""
+    out, made = _c.Refusal(), _c.areas(_c.pairs(areas, 32))
+    given = made.at, c_size_t(made.len), byref(out)
+    answer = _c.library.chanv_check_kept(byref(_made_of(program)), *given)
+    _must_answer(answer, 0)
+    return _permission(out)
 
 
 def may_start(job: Job, program: Program, in_flight: Collection[Program | None]) -> Permission:
@@ -357,7 +383,7 @@ def may_start(job: Job, program: Program, in_flight: Collection[Program | None])
     """
     out, flying = _c.Refusal(), _programs(in_flight)
     starting = byref(_made_of(program))
-    with _job(job) as made:
+    with _job(job, job.storage) as made:
         given = flying, c_size_t(len(flying)), starting, byref(out)
         answer = _c.library.chanv_check_start(byref(made), *given)
     _must_answer(answer, out.extent)
@@ -376,14 +402,32 @@ def may_write(area: Sequence[int], in_flight: Collection[Program | None]) -> Per
     return _permission(out)
 
 
+def storing(*areas: Sequence[int]) -> Program:
+    """A row of the table for others who write into areas for a while, such as a tape's input.
+
+    Enter it after a yes of `may_write`, and take it out after the last byte is written.
+    """
+    return Program(0, 0, 0, 0, (), (), store=areas, keep=(), kept=b"")
+
+
+def keeping(*areas: Sequence[int]) -> Program:
+    """A row of the table that guards areas of others, such as a prefix of the supervisor's own.
+
+    No program that may store over them starts while the row is in the table.
+    """
+    return Program(0, 0, 0, 0, (), (), store=(), keep=areas, kept=b"")
+
+
 @contextmanager
-def _job(job: Job) -> Iterator[_c.Job]:
-    """The job for C, as long as the block lasts."""
-    lists = _c.extents(job.extents), _c.areas(job.fetch), _c.areas(job.store)
-    numbers = _c.number(job.start, 32), _c.number(job.limit, 32)
-    few = _c.number(job.device, 16), _c.number(job.mask, 8)
-    with _c.bytes_of(job.storage, job.copy) as storage:
-        yield _c.Job(storage, *lists, *numbers, *few)
+def _job(job: Job, storage: Storage) -> Iterator[_c.Job]:
+    """The job for C over its storage, or over a copy of it, as long as the block lasts."""
+    with _c.bytes_of(storage) as held:
+        yield _c.Job(held, *getattr(job, "_made"))
+
+
+def _quiet(job: Job) -> Storage:
+    """Storage that nothing writes: a copy, unless the job says that none is needed."""
+    return _c.quiet(job.storage) if job.copy else job.storage
 
 
 def _must_answer(answer: int, extent: int) -> None:
@@ -426,42 +470,37 @@ def _permission(out: _c.Refusal) -> Permission:
         return Permission()
     word = _word("refusal", out.code)
     value = out.value if word in _WITH_VALUE else None
-    return Permission(word, value, out.program if word in _WITH_PROGRAM else None)
+    return Permission(word, value, out.program if word in _OVER_KEPT else None)
 
 
-def _lengths(out: _c.Needed) -> tuple[int, ...]:
-    return out.extent_count, out.fetch_count, out.store_count, out.keep_count, out.kept_len
+def _program(made: _c.Program, out: _c.Needed) -> Program:
+    """What the library wrote about a program, in values of Python."""
+    rows = made.rows
+    return Program(
+        start=made.start,
+        device=made.device,
+        storage_len=rows.storage_len,
+        mask=rows.mask,
+        extents=_c.rows_of(rows.extents),
+        fetch=_c.rows_of(rows.fetch),
+        store=_c.rows_of(rows.store),
+        keep=_c.rows_of(rows.keep),
+        kept=_c.held_bytes(made.kept),
+        hangs_at=out.hangs_at if out.may_hang else None,
+        hangs_entered=_word("entered", out.hangs_entered) if out.may_hang else None,
+        interrupts_at=out.interrupts_at if out.interrupts else None,
+        ends_chaining_at=out.ends_chaining_at if out.ends_chaining else None,
+    )
 
 
-def _needed(made: _c.Job) -> tuple[int, _c.Needed, list[Any]]:
-    """The answer of `chanv_needs`, and its four lists with the kept bytes. The program may shrink
-    between two calls: then the lists don't fill the room that the first call asked for."""
-    out, answer, lists = _c.Needed(), _c.NO_ROOM, list[Any]()
-    while answer == _c.NO_ROOM:
-        lists = [(kind * length)() for kind, length in zip(_LISTED, _lengths(out))]
-        rooms = [word for rows in lists for word in (rows, c_size_t(len(rows)))]
-        answer = _c.library.chanv_needs(byref(made), byref(out), *rooms)
-    return answer, out, [rows[:length] for rows, length in zip(lists, _lengths(out))]
-
-
-def _no_job(made: _c.Job) -> Error:
+def _no_job(job: Job) -> Error:
     """Why no job will do. The verdict and its explanation are about one copy of storage, which
     nothing writes; if some job will do for the copy, storage has changed."""
-    held = string_at(made.storage.at, made.storage.len)
-    made.storage = _c.bytes_at(held)
-    answer, out, _ = _needed(made)
-    if answer == _c.NO:
-        return NoJob(_verdict(out.verdict), _text(_c.library.chanv_open_text, made))
-    return NoAnswer(Answer.CHANGED_MEANWHILE if answer == _c.YES else answer)
-
-
-def _text(call: Callable[..., int], made: _c.Job) -> str:
-    length, answer, buffer = c_size_t(), _c.NO_ROOM, create_string_buffer(0)
-    while answer == _c.NO_ROOM:
-        buffer = create_string_buffer(length.value)
-        answer = call(byref(made), buffer, c_size_t(len(buffer)), byref(length))
-    _must_answer(answer, 0)
-    return buffer.raw[: length.value].decode("ascii")
+    opened = replace(job.opened(), storage=_c.quiet(job.storage))
+    verdict = verify(opened)
+    if verdict:
+        return NoAnswer(Answer.CHANGED_MEANWHILE)
+    return NoJob(verdict, text(opened))
 
 
 def _made_of(program: Program) -> _c.Program:

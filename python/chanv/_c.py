@@ -2,15 +2,17 @@
 
 import operator
 import os
+from array import array
 from collections.abc import Iterable, Iterator, Sequence
 from contextlib import contextmanager
 from ctypes import CDLL, POINTER, Structure, byref, c_char_p, c_int, c_size_t, c_ssize_t, c_uint8
-from ctypes import c_uint16, c_uint32, c_uint64, c_void_p, cast, py_object, pythonapi
+from ctypes import c_uint16, c_uint32, c_void_p, cast, py_object, pythonapi, string_at
+from itertools import chain
 from pathlib import Path
 from typing import Any
 
-VERSION = "0.7.0"
-SONAME = "libchanv.so.0.7"
+VERSION = "0.8.0"
+SONAME = "libchanv.so.0.8"
 
 # the codes that this package tells apart
 YES, NO, NO_ROOM = 0, 1, 11
@@ -56,7 +58,6 @@ class Job(Structure):
         ("limit", c_uint32),
         ("device", c_uint16),
         ("mask", c_uint8),
-        ("reserved", c_uint64 * 4),
     ]
 
 
@@ -102,7 +103,6 @@ class Explanation(Structure):
         ("second_path_count", c_size_t),
         ("evidence", Evidence),
         ("unused", c_uint32),
-        ("reserved", c_uint64 * 4),
     ]
 
 
@@ -115,11 +115,15 @@ class Needed(Structure):
         ("keep_count", c_size_t),
         ("kept_len", c_size_t),
         ("storage_len", c_uint32),
-        ("may_hang", c_uint32),
         ("hangs_at", c_uint32),
+        ("interrupts_at", c_uint32),
+        ("ends_chaining_at", c_uint32),
         ("mask", c_uint8),
+        ("may_hang", c_uint8),
+        ("interrupts", c_uint8),
+        ("ends_chaining", c_uint8),
         ("hangs_entered", c_uint8),
-        ("reserved", c_uint64 * 4),
+        ("unused", c_uint8 * 3),
     ]
 
 
@@ -140,7 +144,6 @@ class Program(Structure):
         ("kept", Bytes),
         ("start", c_uint32),
         ("device", c_uint16),
-        ("reserved", c_uint64 * 4),
     ]
 
 
@@ -150,7 +153,6 @@ class Refusal(Structure):
         ("program", c_size_t),
         ("code", c_uint32),
         ("value", c_uint32),
-        ("reserved", c_uint64 * 4),
     ]
 
 
@@ -180,24 +182,21 @@ _release_buffer.argtypes = [POINTER(_Buffer)]
 _release_buffer.restype = None
 
 
+def quiet(storage: Any) -> bytes:
+    """Bytes, which nothing changes: a copy of storage, unless it is `bytes`. An object without
+    bytes, such as a number, is a TypeError."""
+    return storage if isinstance(storage, bytes) else bytes(memoryview(storage))
+
+
 @contextmanager
-def bytes_of(storage: Any, copy: bool) -> Iterator[Bytes]:
-    """The memory of an object with bytes, as long as the block lasts; of a copy, if the object can
-    change and `copy` is on. An object without bytes, such as a number, is a TypeError."""
-    if copy and type(storage) is not bytes:
-        storage = bytes(memoryview(storage))
+def bytes_of(storage: Any) -> Iterator[Bytes]:
+    """The memory of an object with bytes, as long as the block lasts; without a copy."""
     buffer = _Buffer()
     _get_buffer(storage, byref(buffer), 0)
     try:
         yield Bytes(buffer.at, buffer.len)
     finally:
         _release_buffer(byref(buffer))
-
-
-def bytes_at(kept: Any) -> Bytes:
-    """The memory of bytes or of an array, which the caller keeps."""
-    at = c_char_p(kept) if isinstance(kept, bytes) else kept
-    return Bytes(cast(at, c_void_p), len(kept))
 
 
 def number(value: Any, bits: int) -> int:
@@ -209,28 +208,43 @@ def number(value: Any, bits: int) -> int:
 
 
 def pairs(rows: Iterable[Sequence[int]], bits: int) -> tuple[tuple[int, int], ...]:
-    """Pairs of numbers that nothing can change."""
+    """Pairs of numbers that nothing can change; rows from an iterator are taken from it here."""
     return tuple((number(first, bits), number(second, bits)) for first, second in rows)
 
 
-def held(rows: Iterable[Sequence[int]]) -> tuple[tuple[int, int], ...]:
-    """The same of numbers of any size; rows from an iterator are taken from it here, once."""
-    return tuple((first, second) for first, second in rows)
+# Lists for C, of pairs that were checked, and bytes. Each holds its array, which lasts as long.
 
 
-def extents(rows: Iterable[Sequence[int]]) -> Extents:
-    made = pairs(rows, 16)
-    return Extents((Extent * len(made))(*(Extent(*it) for it in made)), len(made))
+def extents(made: Sequence[tuple[int, int]]) -> Extents:
+    words = array("H", chain.from_iterable(made))
+    return Extents((Extent * len(made)).from_buffer(words), len(made))
 
 
-def areas(rows: Iterable[Sequence[int]]) -> Areas:
-    made = pairs(rows, 32)
-    return Areas((Area * len(made))(*(Area(*it) for it in made)), len(made))
+def areas(made: Sequence[tuple[int, int]]) -> Areas:
+    words = array("I", chain.from_iterable(made))
+    return Areas((Area * len(made)).from_buffer(words), len(made))
+
+
+def bytes_at(held: Any) -> Bytes:
+    at = c_char_p(held) if isinstance(held, bytes) else held
+    return Bytes(cast(at, c_void_p), len(held))
+
+
+def rows_of(made: Extents | Areas) -> list[tuple[int, int]]:
+    """The pairs of a list that the library wrote."""
+    rows = made.at[: made.len]
+    if isinstance(made, Extents):
+        return [(it.first, it.last) for it in rows]
+    return [(it.start, it.len) for it in rows]
+
+
+def held_bytes(made: Bytes) -> bytes:
+    return string_at(made.at, made.len)
 
 
 def _rooms() -> Iterator[Path]:
-    """Where a library of this package may be: `lib` of the prefix in which `make install` or pip put
-    the package, or `out` of the checkout that it is a part of."""
+    """Where a library of this package may be: `lib` of the prefix in which `make install` or pip
+    put the package, or `out` of the checkout that it is a part of."""
     here = Path(__file__).resolve()
     is_installed = here.parts[-5:-1] == ("share", "chanv", "python", "chanv")
     is_of_pip = here.parts[-5:-4] == ("lib",) and here.parts[-3] in PACKAGES_OF_PIP
