@@ -81,24 +81,20 @@ def check_premises(checks):
 
 
 def check_duties(checks):
-    """The header asks of a caller what the pages ask, and the row of a write that lasts is that of
-    SUPERVISOR's C."""
+    """The header asks of a caller what the pages ask."""
     header = plain(text_of(HEADER))
     for page, words in ASKED:
         checks.expect_that(f"the header says: {words}", words in header, words)
         checks.expect_that(f"{page} says: {words}", words in plain(text_of(DOCS / page)), words)
-    page = text_of(DOCS / "SUPERVISOR.md")
-    entered = re.findall(r"in_flight\[row\]\.(rows\.\w+)\.at = area;", page)
-    told = re.findall(r"a program whose (\S+) is the area, and which is zero otherwise", header)
-    checks.expect("the row of a write that lasts", entered, told)
 
 
 def check_comments(checks):
     """The numbers in the header's comments: which codes are faults, and how large things may be."""
     header = plain(text_of(HEADER))
     shown = re.findall(r"(?m)^number (\d+): \S+ \(a fault\)", text_of(ROOT / "tests/c/edges.out"))
-    told = re.findall(r"(\d+) to (\d+)(?:,? or| and) (\d+)", header)
-    sets = [{*range(int(first), int(last) + 1), int(one)} for first, last, one in told]
+    told = re.findall(r"(\d+) to (\d+)(?= are faults)", header)
+    told += re.findall(r"(?<=fault of the job)(?:,| itself \() ?(\d+) to (\d+)", header)
+    sets = [{*range(int(first), int(last) + 1)} for first, last in told]
     checks.expect("the faults", [{int(code) for code in shown}] * 3, sets)
     limits = dict(re.findall(r"(\w+) = (\d{4,})", text_of(HEADER) + text_of(ROOT / "c/chanv.c")))
     sizes = {f"{int(limits[it]):,}" for it in ("LARGEST_STORAGE", "CHANV_LARGEST_LIMIT")}
@@ -191,12 +187,13 @@ def check_manual(checks):
 
 
 def check_machine_stores(checks):
-    """OUTPUT has the note on the ranges that SUPERVISOR's C asks about."""
-    pairs = re.findall(r"\{(0x\w+), (0x\w+|\d+)\}", text_of(DOCS / "SUPERVISOR.md"))
-    areas = [(int(start, 16), int(length, 0)) for start, length in pairs]
-    asked = [f"{start:06X}-{start + length - 1:06X}" for start, length in areas]
+    """OUTPUT has the note on the ranges that SUPERVISOR says of the old PSWs, the CSW and the timer,
+    of which the first two adjoin."""
+    row = re.search(r"(?m)^\| stores old PSWs .*?;", text_of(DOCS / "SUPERVISOR.md"))[0]
+    first, _, _, last, *timer = re.findall(r"`(\w{6})`", row)
     row = re.search(r"(?m)^\| `keep SSSSSS.*$", text_of(DOCS / "OUTPUT.md"))[0]
-    checks.expect("where the machine stores", re.findall(r"`(\w{6}-\w{6})`", row), asked)
+    stored = [f"{first}-{last}", "-".join(timer)]
+    checks.expect("where the machine stores", re.findall(r"`(\w{6}-\w{6})`", row), stored)
 
 
 def check_counts(checks):

@@ -1,8 +1,9 @@
 """The worked supervisor over random starts, with others who write what no program in flight keeps.
 
 The machine is that of tests/model/, and examples/c/supervisor.c decides what may start and what may
-be written. No program in flight does harm, whatever the seed. If the supervisor leaves out one of
-the checks that the law asks for, some program does.
+be written. The machine also stores by itself, without a question. No program in flight does harm,
+whatever the seed. If the supervisor leaves out one of the checks that the law asks for, some
+program does.
 """
 
 import sys
@@ -21,24 +22,32 @@ from flying import STORAGE, Flights  # noqa: E402
 SUPERVISOR = ROOT / "examples/c/supervisor.c"
 SEEDS, STARTS = range(1, 6), 4000
 
-NO_ROOM, MAY_HANG = 11, 100
+NO_ROOM, MAY_HANG, INTERRUPTS, KEEPS_OUTSIDE = 11, 100, 101, 102
 # What a careless supervisor leaves out: a name, the text of the check, and the text in its place.
 # The middle two take certain refusals for a yes.
-DENIED = "&refusal) != CHANV_YES)"
+DENIED = "&taken->program, &refusal) != CHANV_YES)"
 CARELESS = [
-    ("beside", "(job, in_flight, UNITS,", "(job, in_flight, 0,"),
+    ("beside", "(job, in_flight, ROWS,", "(job, in_flight, 0,"),
     (
         "grants",
         DENIED,
-        "&refusal) == CHANV_NO && (refusal.code < CHANV_REFUSED_MASK"
+        "&taken->program, &refusal) == CHANV_NO && (refusal.code < CHANV_REFUSED_MASK"
         " || refusal.code > CHANV_REFUSED_NOT_STORABLE))",
     ),
-    ("the comparison", DENIED, "&refusal) == CHANV_NO && refusal.code != CHANV_REFUSED_CHANGED)"),
+    (
+        "the comparison",
+        DENIED,
+        "&taken->program, &refusal) == CHANV_NO && refusal.code != CHANV_REFUSED_CHANGED)",
+    ),
     ("hands off", "&refusal) == CHANV_YES;", "&refusal) <= CHANV_NO;"),
     ("a look at the unit", "in_flight[unit].device != 0", "unit < 0"),
+    ("a look at what is kept", "own.len, &refusal) != CHANV_YES", "own.len, &refusal) > CHANV_NO"),
+    ("a row of the prefixes", "chanv_row_keeping(area,", "chanv_row_storing(area,"),
 ]
+# where the machine itself stores, and where the prefixes stand, as c/flights.c has them
+MACHINE, PREFIXES = slice(0x240, 0x260), slice(0x5C0, 0x5E0)
 
-MAY = "!needed.may_hang "
+MAY = "needed->may_hang "
 
 
 class Supervisor:
@@ -47,6 +56,7 @@ class Supervisor:
     def __init__(self, c, library):
         self.c, self.library, self.storage = c, CDLL(str(library)), bytearray(STORAGE)
         self.library.flights_program.restype = POINTER(c.Program)
+        self.library.flights_begin()
         self.bytes = c.bytes_at((c_char * STORAGE).from_buffer(self.storage))
 
     def made(self, job):
@@ -80,6 +90,19 @@ class Supervisor:
         return self.library.flights_may_write(address, count)
 
 
+class Beside(Flights):
+    """Flights beside which the machine stores. No program may store over a prefix."""
+
+    def __init__(self, supervisor, seed):
+        super().__init__(supervisor, seed)
+        self.prefixes = bytes(self.storage[PREFIXES])
+
+    def step(self, unit):
+        self.storage[MACHINE] = self.random.randbytes(MACHINE.stop - MACHINE.start)
+        harm = super().step(unit)
+        return harm or ("over a prefix" if self.storage[PREFIXES] != self.prefixes else None)
+
+
 def compile_flights(library, supervisor, folder, seed):
     """A library with a supervisor, for each seed another, because it has a table of its own."""
     folder.mkdir(exist_ok=True)
@@ -91,7 +114,7 @@ def compile_flights(library, supervisor, folder, seed):
 def check_careful(checks, c, library, room):
     for seed in SEEDS:
         made = compile_flights(library, text_of(SUPERVISOR), room / "careful", seed)
-        flights = Flights(Supervisor(c, made), seed)
+        flights = Beside(Supervisor(c, made), seed)
         checks.expect(f"harm in {STARTS} starts, seed {seed}", None, flights.fly(STARTS))
         each = all(flights.counts.values())
         checks.expect_that(f"seed {seed} comes to everything", each, flights.counts)
@@ -103,7 +126,7 @@ def check_careless(checks, c, library, room):
         checks.expect(f"the supervisor has {name}, once", 1, text.count(old))
         careless = text.replace(old, new)
         made = (compile_flights(library, careless, room / name, seed) for seed in SEEDS)
-        harms = (Flights(Supervisor(c, it), seed).fly(STARTS) for it, seed in zip(made, SEEDS))
+        harms = (Beside(Supervisor(c, it), seed).fly(STARTS) for it, seed in zip(made, SEEDS))
         harm = next(filter(None, harms), None)
         checks.expect_that(f"without {name} a program comes to harm", harm, "no harm")
 
@@ -121,12 +144,19 @@ def answers_wanted():
         ("for a 2314", 0),
         ("a loop", MAY_HANG),
         ("a loop", 0),
+        ("outside its own storage", KEEPS_OUTSIDE),
+        ("an interruption", INTERRUPTS),
+        ("an interruption", 0),
     ]:
         started = f"{name}: {answer}, {'held back' if answer else 'started'}"
         other = {"for a 2311": ", on a 2314 held back", "for a 2314": ", on a 2311 held back"}
         yield started + other.get(name, "")
+    yield "prefix 07003F1840000006 1F003F1E40000001 0800080000000000 0000000A00008000: yes"
+    yield "over the prefixes: 0, held back"
+    yield "just before the prefixes: 0, started"
     yield "emulated 2 rows: 0, there"
     yield "emulated a code of no command: 1, not there"
+    yield "emulated chain data where nothing moves: 1, not there"
     for write, allowed in [
         ("0 800", True),
         ("0 801", False),
@@ -152,7 +182,7 @@ def check_answers(checks, library, room):
     wanted = "".join(f"{line}\n" for line in answers_wanted())
     checks.expect("each answer of chanv_take_in", Ran(0, wanted), ran)
     checks.expect("the supervisor looks for a program that may hang, once", 1, text.count(MAY))
-    careless = text.replace(MAY, "1 ")
+    careless = text.replace(MAY, "0 ")
     ran = run(compile_answers(library, careless, room / "any program"))
     checks.expect_that("or else it starts", ran != Ran(0, wanted), ran)
 

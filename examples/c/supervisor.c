@@ -1,17 +1,24 @@
 /* A supervisor that has several channel programs in flight at once, on one main storage that others
- * write too. It takes each program in, and asks before each start and before each write of others.
- * That is all: under the premises of chanv.h no program in flight then meets a program check, moves
- * a byte that it wasn't lent, seeks outside its extents or issues an inhibited command. A supervisor
- * with threads holds one lock during each function below except take_in, and keeps it until the
- * program has been started or the bytes are written. */
+ * write too. It takes each program in, and asks before each start and before each write of others
+ * into its users' storage. That is all: under the premises of chanv.h no program in flight then
+ * meets a program check, moves a byte that it wasn't lent, seeks outside its extents or issues an
+ * inhibited command. A supervisor with threads holds one lock during each function below except
+ * take_in, and keeps it until the program has been started or the bytes are written. */
 #include <chanv.h>
 #include <string.h>
 
-enum { UNITS = 8, MOST_BYTES = 2048, MAY_HANG = 100 };
+enum { UNITS = 8, ROWS = UNITS + 1, MOST_BYTES = 2048, PREFIX_BYTES = 32 };
 
-/* Whether it takes in programs that, from some place on, only an error, an end of file, an incorrect
- * length or a halt ends. */
-static int takes_hanging = 0;
+/* Why a program isn't taken in though some job will do for it. */
+enum { MAY_HANG = 100, INTERRUPTS = 101, KEEPS_OUTSIDE = 102 };
+
+/* Whether it takes in programs that, from some place on, only an error, an end of file, an
+ * incorrect length or a halt ends; and programs that ask for program-controlled interruptions. */
+static int takes_hanging = 0, takes_interrupting = 0;
+
+/* What users own. All the rest is written without a question, by the supervisor and by the machine
+ * itself, and the prefixes stand there. */
+static struct chanv_areas own;
 
 /* A program that was taken in. The program points into `memory`, which has MOST_BYTES and stays
  * where it is, so this struct may be copied. */
@@ -20,23 +27,63 @@ struct taken {
     uint8_t *memory;
 };
 
-/* The programs in flight, by the number of the unit. Zeros are no program. */
-static struct chanv_program in_flight[UNITS];
+/* The programs in flight, by the number of the unit; zeros are no program. The last row keeps the
+ * prefixes. */
+static struct chanv_program in_flight[ROWS];
 
-/* Takes the job's program in, which isn't in flight now. Only after CHANV_OK may it start; MAY_HANG
- * refuses a program that may never end by itself. The channels of other programs may store
- * meanwhile, even over this program: chanv judges a private copy of what the program keeps. If it
- * answers CHANV_CHANGED_MEANWHILE, the caller may ask again, but not without end. */
+/* Why this supervisor refuses a program that was taken in, or CHANV_OK. */
+static uint32_t why_refused(const struct chanv_program *program, const struct chanv_needed *needed)
+{
+    struct chanv_refusal refusal;
+    if (chanv_check_kept(program, own.at, own.len, &refusal) != CHANV_YES)
+        return KEEPS_OUTSIDE;
+    if (needed->may_hang && !takes_hanging)
+        return MAY_HANG;
+    return needed->interrupts && !takes_interrupting ? INTERRUPTS : CHANV_OK;
+}
+
+/* Takes the job's program in, which isn't in flight now. Only after CHANV_OK may it start. The
+ * channels of other programs may store meanwhile, even over this program: chanv judges a private
+ * copy of what the program keeps. If it answers CHANV_CHANGED_MEANWHILE, the caller may ask again,
+ * but not without end. */
 static uint32_t take_in(struct taken *taken, const struct chanv_job *job)
 {
     struct chanv_needed needed;
-    size_t len;
-    enum chanv_answer answer =
-        chanv_take_in(job, taken->memory, MOST_BYTES, &len, &taken->program, &needed);
-    if (answer != CHANV_OK || !needed.may_hang || takes_hanging)
-        return answer;
-    memset(&taken->program, 0, sizeof taken->program);
-    return MAY_HANG;
+    uint32_t answer =
+        chanv_take_in(job, taken->memory, MOST_BYTES, NULL, &taken->program, &needed);
+    if (answer == CHANV_OK)
+        answer = why_refused(&taken->program, &needed);
+    if (answer != CHANV_OK)
+        memset(&taken->program, 0, sizeof taken->program);
+    return answer;
+}
+
+/* Lets no program that starts from now on store over the prefixes. `area` stays where it is. It is
+ * called before the first start. */
+static void guard_prefixes(const struct chanv_area *area)
+{
+    chanv_row_keeping(area, &in_flight[UNITS]);
+}
+
+static void put_ccw(uint8_t *at, uint8_t code, uint32_t address, uint8_t flags, uint8_t count)
+{
+    const uint8_t ccw[] = {code,  (uint8_t)(address >> 16), (uint8_t)(address >> 8),
+                           (uint8_t)address, flags, 0, 0, count};
+    memcpy(at, ccw, sizeof ccw);
+}
+
+/* The prefix with which a program starts: it moves the arm into the extents, sets the job's mask,
+ * and goes on to the program in the same chain. It stands at an address of the prefixes, a multiple
+ * of 8; the channel is started there. */
+static void make_prefix(uint8_t bytes[PREFIX_BYTES], uint32_t address, const struct chanv_job *job)
+{
+    enum { SEEK = 0x07, SET_FILE_MASK = 0x1F, TRANSFER = 0x08, CHAIN_COMMAND = 0x40 };
+    uint16_t cylinder = job->extents.at[0].first;
+    const uint8_t last[] = {0, 0, (uint8_t)(cylinder >> 8), (uint8_t)cylinder, 0, 0, job->mask, 0};
+    put_ccw(bytes, SEEK, address + 24, CHAIN_COMMAND, 6);
+    put_ccw(bytes + 8, SET_FILE_MASK, address + 30, CHAIN_COMMAND, 1);
+    put_ccw(bytes + 16, TRANSFER, job->start, 0, 0);
+    memcpy(bytes + 24, last, sizeof last);
 }
 
 /* Starts the program on a unit that is free, if it may start. It is in flight until the channel
@@ -46,23 +93,23 @@ static int start(const struct taken *taken, int unit, const struct chanv_job *jo
     struct chanv_refusal refusal;
     if (in_flight[unit].device != 0)
         return 0;
-    if (chanv_check_start(job, in_flight, UNITS, &taken->program, &refusal) != CHANV_YES)
+    if (chanv_check_start(job, in_flight, ROWS, &taken->program, &refusal) != CHANV_YES)
         return 0;
     in_flight[unit] = taken->program;
     return 1;
 }
 
-/* The program on a unit has ended, or was halted, and the channel's last store is visible. It may be
- * started again without being taken in again. */
+/* The program on a unit has ended, or was halted, and the channel's last store is visible. It may
+ * be started again without being taken in again. */
 static void leave(int unit)
 {
     memset(&in_flight[unit], 0, sizeof in_flight[unit]);
 }
 
-/* Whether others, such as the processor, may write these bytes now. */
+/* Whether others, such as the processor, may write these bytes of users' storage now. */
 static int may_write(uint32_t address, uint32_t length)
 {
     struct chanv_area area = {address, length};
     struct chanv_refusal refusal;
-    return chanv_check_write(in_flight, UNITS, &area, &refusal) == CHANV_YES;
+    return chanv_check_write(in_flight, ROWS, &area, &refusal) == CHANV_YES;
 }

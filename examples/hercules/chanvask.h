@@ -39,6 +39,7 @@ struct CHANVASK {
     struct chanv_extent extents[CHANVASK_EXTENTS];
     size_t extent_count;
     BYTE mask, refuse, quiet;
+    BYTE goes_on; /* Hercules goes on where chanv stops, so nothing else is asked */
     BYTE refused; /* this start is refused, at the CCW of this address */
     U32 address;
     U64 starts, questions, noes, nanoseconds;
@@ -188,13 +189,24 @@ static inline struct chanv_job chanvask_look(DEVBLK *dev, U32 start)
     return job;
 }
 
-/* Takes the job's program in, if it can. If it can't, the program is zeros, which never start. */
-static inline U32 chanvask_take_in(struct chanvask_program *taken, const struct chanv_job *job)
+/* Takes the job's program in, if it can. If it can't, the program is zeros, which never start. Nor
+ * does a program with a No Operation or a Recalibrate that has chain data on: chanv judges it only
+ * up to there, and Hercules goes on. */
+static inline U32 chanvask_take_in(DEVBLK *dev, struct chanvask_program *taken,
+                                   const struct chanv_job *job)
 {
+    struct CHANVASK *ask = dev->chanvask;
     struct chanv_needed needed;
-    size_t len;
+    U32 answer = chanv_take_in(job, taken->memory, CHANVASK_BYTES, NULL, &taken->program, &needed);
 
-    return chanv_take_in(job, taken->memory, CHANVASK_BYTES, &len, &taken->program, &needed);
+    ask->goes_on = needed.ends_chaining;
+    if (!ask->goes_on)
+        return answer;
+    memset(&taken->program, 0, sizeof taken->program);
+    ask->address = needed.ends_chaining_at;
+    logmsg(_("HHCCV006W %4.4X: chanv stops at %6.6X, start %6.6X%s\n"), dev->devnum, ask->address,
+           job->start, ask->refuse ? ", not started" : "");
+    return CHANV_NO;
 }
 
 /* Of each row those blocks that the key of this start lets a channel fetch from, or store into. */
@@ -320,14 +332,15 @@ static inline void chanvask_ask(DEVBLK *dev)
     U64 took;
 
     clock_gettime(CLOCK_MONOTONIC, &began);
+    ask->goes_on = 0;
     may_start = chanvask_may_start(dev, taken, start, &refusal);
     if (!may_start && refusal.code <= CHANV_REFUSED_CHANGED) { /* it isn't the one that was taken in */
         struct chanv_job job = chanvask_look(dev, start);
-        may_start = chanvask_take_in(taken, &job) == CHANV_OK
+        may_start = chanvask_take_in(dev, taken, &job) == CHANV_OK
                     && chanvask_may_start(dev, taken, start, &refusal);
     }
     if (!may_start)
-        answer = chanvask_why(dev, start);
+        answer = ask->goes_on ? CHANV_NO : chanvask_why(dev, start);
     clock_gettime(CLOCK_MONOTONIC, &ended);
     took = (ended.tv_sec - began.tv_sec) * 1000000000LL + ended.tv_nsec - began.tv_nsec;
     ask->starts++;

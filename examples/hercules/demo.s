@@ -1,13 +1,15 @@
 # Starts three channel programs on the disk at 190, one after the other, and stops in a disabled
 # wait. The three low bytes of its PSW are the channel statuses with which they ended. With `rounds`
 # defined it starts the first of them alone, so many times, under the key that `key` says, and with
-# `changing` defined it changes a byte of it after each of them.
+# `changing` defined it changes a byte of it after each of them. With `around` defined it starts a
+# fourth alone; then the last byte but one is the cylinder whose home address was read.
 
         .macro  ccw code, address, flags, count
         .long   (\code << 24) + \address, ((\flags) << 24) + \count
         .endm
 
         .equ    chain, 0x40             # chain command
+        .equ    chain_data, 0x80
         .equ    any_length, 0x20        # suppress length indication
         .ifndef key
         .equ    key, 8
@@ -46,16 +48,29 @@ ended:
         l       %r8,caws(%r5)
         ltr     %r8,%r8
         bc      6,next
+        .ifdef  around
+        la      %r6,0
+        ic      %r6,home+2
+        sll     %r6,8
+        or      %r7,%r6
+        .endif
         st      %r7,halt+4
         lpsw    halt
 
         .balign 8
 busy:   .long   0xFE020000, 0           # waits for the interruption
 halt:   .long   0x00020000, 0
-caws:   .long   (key << 28) + good
+caws:
+        .ifdef  around
+        .long   (key << 28) + goes_on
+        .else
+        .long   (key << 28) + good
+        .ifndef rounds
+        .long   (key << 28) + outside, (key << 28) + past
+        .endif
+        .endif
         .ifndef rounds
         .equ    rounds, 1
-        .long   (key << 28) + outside, (key << 28) + past
         .endif
         .long   0
 times:  .long   rounds
@@ -79,8 +94,16 @@ past:   ccw     0x07, ten, chain, 6
         ccw     0x08, past + 8, 0, 0
         ccw     0x16, 0xFF8, any_length, 16
 
+        .org    0x8C0                   # ends here on a channel, but Hercules goes on to cylinder 5
+goes_on:
+        ccw     0x03, 0, chain_data+chain, 1
+        ccw     0x07, five, chain, 6
+        ccw     0x1A, home, any_length, 5
+
         .org    0x900
 ten:    .short  0, 10, 0                # bin, cylinder, head
 twenty: .short  0, 20, 0
 record: .skip   16
+five:   .short  0, 5, 0
+home:   .skip   5
         .org    0x1000

@@ -1,6 +1,6 @@
 #!/bin/bash
-# Builds Hercules 3.13 with chanv, starts the three channel programs of demo.s on it, and compares
-# what becomes of them. Then it says how long a start is held up.
+# Builds Hercules 3.13 with chanv, starts the channel programs of demo.s on it, and compares what
+# becomes of them. Then it says how long a start is held up.
 #
 #     try.sh TARBALL [LIBRARY [WORK]]
 #
@@ -71,6 +71,16 @@ HHCCV003I 0190:  000888 fresh 3900090260000004
 HHCCV003I 0190:  000898 fresh 16000FF820000010
 HHCCV003I 0190: not lent: 001000-001007
 PSW=00020000 80002020
+END
+# the fourth reads the home address of cylinder 5, unless it is refused
+assemble --defsym around=1
+compare "chanv=10-19" <<'END'
+HHCCV006W 0190: chanv stops at 0008C0, start 0008C0
+PSW=00020000 80000500
+END
+compare "chanv=10-19 chanvrefuse" <<'END'
+HHCCV006W 0190: chanv stops at 0008C0, start 0008C0, not started
+PSW=00020000 80000020
 END
 echo "as it should be"
 for key in 0 8; do
