@@ -8,7 +8,8 @@ to judge them all takes half an hour, so after so many places `find` says that i
 
 A start with 4,096 rows in order, and one with 64 KiB of kept bytes, are bounded in instructions,
 some three times as many as `chanv_check_start` takes: the product of the rows, and a comparison of
-each byte alone, take more. So is a picture of 65,536 places, with some 100,000 arrows: a search from
+each byte alone, take more. A start beside a program with 65,536 rows of each kind that can't meet
+takes at most 12 instructions for each row. So is a picture of 65,536 places, with some 100,000 arrows: a search from
 the first place on for each takes more. valgrind counts the instructions; without it this part is
 left out, by its name.
 """
@@ -35,6 +36,7 @@ BOUNDS = [
 INSTRUCTIONS = [
     (("rows", "4096"), 8_000_000),
     (("bytes", "65536"), 100_000),
+    (("beyond", "65536"), 12 * 2 * 65_536 + 20_000),
 ]
 
 # the deck whose picture is drawn, and how many instructions that may take

@@ -2,7 +2,9 @@
 # wait. The three low bytes of its PSW are the channel statuses with which they ended. With `rounds`
 # defined it starts the first of them alone, so many times, under the key that `key` says, and with
 # `changing` defined it changes a byte of it after each of them. With `around` defined it starts a
-# fourth alone; then the last byte but one is the cylinder whose home address was read.
+# fourth alone; then the last byte but one is the cylinder whose home address was read. With `masked`
+# defined it sets the mask 18, by which a seek is inhibited, in a start of its own, then starts a
+# seek, and then the same seek through a prefix that sets the mask; the bytes are unit statuses.
 
         .macro  ccw code, address, flags, count
         .long   (\code << 24) + \address, ((\flags) << 24) + \count
@@ -13,6 +15,12 @@
         .equ    any_length, 0x20        # suppress length indication
         .ifndef key
         .equ    key, 8
+        .endif
+        .ifdef  around
+        .equ    alone, 1
+        .endif
+        .ifdef  masked
+        .equ    alone, 1
         .endif
 
         .text
@@ -41,7 +49,11 @@ ended:
         .endif
         bct     %r9,again
         la      %r6,0
+        .ifdef  masked
+        ic      %r6,0x44                # the unit status
+        .else
         ic      %r6,0x45                # the channel status
+        .endif
         sll     %r7,8
         or      %r7,%r6
         la      %r5,4(%r5)
@@ -63,7 +75,11 @@ halt:   .long   0x00020000, 0
 caws:
         .ifdef  around
         .long   (key << 28) + goes_on
-        .else
+        .endif
+        .ifdef  masked
+        .long   (key << 28) + sets_mask, (key << 28) + seeks, (key << 28) + prefix
+        .endif
+        .ifndef alone
         .long   (key << 28) + good
         .ifndef rounds
         .long   (key << 28) + outside, (key << 28) + past
@@ -106,4 +122,13 @@ twenty: .short  0, 20, 0
 record: .skip   16
 five:   .short  0, 5, 0
 home:   .skip   5
+mask:   .byte   0x18
+
+        .org    0x940
+sets_mask:
+        ccw     0x1F, mask, 0, 1
+seeks:  ccw     0x07, ten, 0, 6
+prefix: ccw     0x07, ten, chain, 6
+        ccw     0x1F, mask, chain, 1
+        ccw     0x08, seeks, 0, 0
         .org    0x1000

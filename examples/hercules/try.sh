@@ -82,6 +82,11 @@ compare "chanv=10-19 chanvrefuse" <<'END'
 HHCCV006W 0190: chanv stops at 0008C0, start 0008C0, not started
 PSW=00020000 80000020
 END
+# a mask that an earlier start sets is gone; a prefix sets it for the program behind it
+assemble --defsym masked=1
+compare "" <<'END'
+PSW=00020000 800C0C0E
+END
 echo "as it should be"
 for key in 0 8; do
     measure $key
