@@ -1,6 +1,6 @@
 //! The listing of the places that a program can come to.
 
-ghost use Rattle.std.specs.Prelude.{◌≡◌, ◌↔◌, ◌++◌, false, true, option_map, string_bytes};
+ghost use Rattle.std.specs.Prelude.{◌≡◌, ◌↔◌, ◌++◌, codes, false, true, option_map, string_bytes};
 ghost use Rattle.std.specs.Prelude.{IfOk, IsErrOf, OnOk};
 ghost use Rattle.ckd_core.specs.Entries.{entry_of};
 ghost use Rattle.std.specs.Io.KnownBytes.{Appends};
@@ -69,10 +69,18 @@ pub(crate) fn transfer_word(after_transfer: bool) -> &'static str
     if after_transfer { "t" } else { "-" }
 }
 
-fn mark_word(marked: bool) -> &'static str
-    ensures { result.now ≡ list.mark_word marked }
+/// What stands in a row between the way of entry and the CCW: whether a transfer led there, and
+/// whether the row is marked, with the blanks around.
+fn marks_between(after_transfer: bool, marked: bool) -> &'static str
+    ensures { result.now ≡ codes " " ++ list.transfer_word after_transfer ++ codes " "
+        ++ list.mark_word marked ++ codes " " }
 {
-    if marked { "*" } else { "." }
+    match (after_transfer, marked) {
+        (true, true) => " t * ",
+        (true, false) => " t . ",
+        (false, true) => " - * ",
+        (false, false) => " - . ",
+    }
 }
 
 /// What a CCW is to the operation: a transfer, a part of a data chain, or this command.
@@ -136,11 +144,7 @@ pub(crate) fn push_words(
     push_address(out, place.address)?;
     out.push_str(" ")?;
     out.push_str(way_word(place.entered))?;
-    out.push_str(" ")?;
-    out.push_str(transfer_word(place.after_transfer))?;
-    out.push_str(" ")?;
-    out.push_str(mark_word(marked))?;
-    out.push_str(" ")?;
+    out.push_str(marks_between(place.after_transfer, marked))?;
     push_word(out, place.entered, ccw, command)
 }
 

@@ -5,7 +5,7 @@ ghost use Rattle.std.specs.Prelude.{OnOk, IsOkUnless, MatchResult, slice_index_o
 ghost use Rattle.std.specs.List.{AllByRecursion};
 ghost use Rattle.ckd_core.specs.Extents.{AreExtents, IsExtent, has_cylinder};
 ghost use Rattle.ckd_core.specs.Faults.{IsFault};
-ghost use Rattle.ckd_core.specs.HeldExtents.{IsHeldTable};
+ghost use Rattle.ckd_core.specs.HeldExtents.{IsHeldRun, IsHeldTable};
 ghost use Rattle.ckd_core.specs.declared.device.TheConstants.{CYLINDERS};
 
 use crate::device::{CYLINDERS, LAST_CYLINDER};
@@ -145,9 +145,36 @@ fn held_cylinders(pairs: &[(u16, u16)]) -> [bool; CYLINDERS]
     ensures { IsHeldTable pairs.now result }
 {
     let mut held = [false; CYLINDERS];
+    let mut run = (0, 0);
     for pair in pairs {
         let (first, last) = *pair;
-        hold(&mut held, usize::from(first), usize::from(last));
+        run = hold_beside(&mut held, run, usize::from(first), usize::from(last));
     }
     held
+}
+
+/// Marks the cylinders of an extent as held, unless they lie in a run of marked cylinders, which
+/// saves most of the work where extents overlap. The run goes from its first cylinder to the one
+/// before its end. The answer is the run that goes on with the extent, or that of the extent alone.
+fn hold_beside(
+    held: &mut [bool; CYLINDERS],
+    run: (usize, usize),
+    first: usize,
+    last: usize,
+) -> (usize, usize)
+    requires order { (first ≤ last) × (last < CYLINDERS) }
+    requires run { IsHeldRun held.old run.0 run.1 }
+    ensures held { (c : ℕ) → c < CYLINDERS → slice_index_or held.new c false
+        ≡ (slice_index_or held.old c false || (nat_le first c && nat_le c last)) }
+    ensures run { IsHeldRun held.new result.0 result.1 }
+{
+    let (from, end) = run;
+    if from <= first && last < end {
+        return run;
+    }
+    hold(held, first, last);
+    if from <= first && first <= end {
+        return (from, last + 1);
+    }
+    (first, last + 1)
 }
