@@ -35,9 +35,10 @@
  * A program that runs alone needs one call, `chanv_verify`. A supervisor with several programs in
  * flight takes each program in by `chanv_take_in`, refuses one that keeps bytes outside its user's
  * own storage by `chanv_check_kept`, and asks `chanv_check_start` before each start, and
- * `chanv_check_write` before others write that storage:
+ * `chanv_check_write` before others write that storage, each time about the whole table, with its
+ * rows that are no program:
  *
- *     if (chanv_check_start(&job, in_flight, UNITS, &program, &refusal) == CHANV_YES)
+ *     if (chanv_check_start(&job, table, ROWS, &program, &refusal) == CHANV_YES)
  *         ...
  *
  * Then all programs in flight are safe at every moment. This is proved under premises that no call
