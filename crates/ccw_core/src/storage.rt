@@ -52,11 +52,10 @@ impl<'a> Storage<'a> {
     pub fn ccw_at(&self, address: u32) -> Option<Ccw>
         ensures { result ≡ ccw_at (bytes_held self.now) address }
     {
-        let at = address as usize;
-        if address % 8 != 0 || self.bytes.len() < at + 8 {
+        if address % 8 != 0 {
             return None;
         }
-        let word = self.bytes[at..at + 8].first_chunk::<8>()?;
+        let word = self.bytes.get(address as usize..)?.first_chunk::<8>()?;
         Some(Ccw::from_bytes(word))
     }
 
@@ -75,7 +74,6 @@ impl<'a> Storage<'a> {
     pub fn range(&self, start: u32, len: u32) -> Option<&'a [u8]>
         ensures { option_copied result ≡ range_at (bytes_held self.now) start len }
     {
-        let start = start as usize;
-        self.bytes.get(start..start + len as usize)
+        self.bytes.get(start as usize..)?.get(..len as usize)
     }
 }

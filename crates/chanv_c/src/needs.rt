@@ -160,9 +160,9 @@ fn copy_area(storage: &[u8], area: Area, copy: &mut [u8])
     ensures length { length copy.new ≡ length copy.old }
     ensures copied { copy.new ≡ with_area storage.now area copy.old }
 {
-    let start = area.start as usize;
-    let end = start + area.len as usize;
-    if end <= storage.len() && end <= copy.len() {
+    let end = u64::from(area.start) + u64::from(area.len);
+    if end <= storage.len() as u64 && end <= copy.len() as u64 {
+        let (start, end) = (area.start as usize, end as usize);
         copy[start..end].copy_from_slice(&storage[start..end]);
     }
 }
