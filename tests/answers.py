@@ -8,7 +8,7 @@ import os
 import re
 
 from building import HERE
-from cures import said_beside
+from cures import said_beside, said_openly
 from examples import EXAMPLES, SEARCH_LOOP, TEXTS, listed_with, picture_of, status_of
 from examples import status_of_needs, verdicts_of
 from find import NONE_FOUND
@@ -79,8 +79,9 @@ def refused(action, fault, name, is_among=False):
     if name in (None, "-"):
         said = said.replace(": it is a folder", "")
     front = "" if name is None else f"{name}: "
-    is_on_line = not hint.startswith("the limit") and (action == "graph" or name is not None)
-    if not is_on_line and not action.startswith("why"):
+    is_limit = hint.startswith("the limit")
+    told = ("why", "graph", "needs") if is_limit else ("why", "graph")
+    if name is None and action.split()[0] not in told:
         hint = ""
     if is_among:
         hint = "".join(f"{front}{line}\n" for line in hint.splitlines())
@@ -118,7 +119,7 @@ def answer(action, given, name=None, is_among=False):
     text, status = text_by(action, deck, name), status_of(verdicts_of(deck.parent)[deck.name])
     if command == "needs":
         status = status_of_needs(text)
-        said = NO_JOB if status else ""
+        said = NO_JOB + said_openly(text_of(deck)) if status else ""
         if status and action == "needs --deck":
             said, text = text + said, ""
         front = f"{name}: " if is_among else ""

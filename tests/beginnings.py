@@ -3,12 +3,14 @@
     tests/run beginnings
 
 A search loop is a search under chain command and, eight bytes on, a transfer. It fits if the image
-begins at the transfer's target less the search's offset. Standard error has a note exactly if one
-address fits at least two loops, more than each other address, and more than --at. The loops are
-read anew here, over the bytes: of an image cut at twenty places, of noise, of loops that agree on a
-wrong address, of ties, and of images with no loop. Over each cut image the address that the note
-names then brings the programs of the whole image, and no note. Decks that are made of an image get
-the same note. Last come images that are text.
+begins at the transfer's target less the search's offset, which is below 0 if so many bytes come
+before the one at address 0. Standard error has a note exactly if one address besides --at fits more
+loops than each other one, and at least two, or one where none fits --at and the loop leads to zeros
+or out of the image. The loops are read anew here, over the bytes: of an image cut at twenty places, of noise, of loops that agree on a wrong address,
+of ties, and of images with no loop. Over each cut image the address that the note names then brings
+the programs of the whole image, and no note; so does the command that it names over an image with
+bytes before its own. Decks that are made of an image get the same note. Last come images that are
+text.
 """
 
 import re
@@ -45,27 +47,38 @@ def is_search(ccw):
 
 
 def beginnings(image):
-    """For each search loop the address at which the image then begins."""
+    """For each search loop the address at which the image then begins, and where it leads."""
     for at in range(len(image) - 15):
         transfer = ccw_of(image[at + 8 : at + 16])
         if is_search(ccw_of(image[at : at + 8])) and transfer.is_transfer():
             begins = transfer.address - at
-            is_in_storage = 0 <= begins and begins + len(image) <= LARGEST
-            if transfer.address % 8 == 0 and is_in_storage:
-                yield begins
+            if transfer.address % 8 == 0 and begins + len(image) <= LARGEST:
+                yield begins, transfer.address
 
 
 def note_of(image, at=0):
-    votes = [*beginnings(image)]
+    loops = [*beginnings(image)]
+    votes = [begins for begins, _ in loops]
     counts = {begins: votes.count(begins) for begins in votes}
+    here = counts.pop(at, 0)
     most = max(counts.values(), default=0)
     likely = [begins for begins, count in counts.items() if count == most]
-    if most < 2 or len(likely) > 1 or most <= counts.get(at, 0):
+    if len(likely) != 1 or most <= min(here, 1):
         return ""
-    return (
-        f"note: {most} search loops fit if the image begins at {likely[0]:06X}: "
-        f"say --at {likely[0]:X}\n"
-    )
+    target = dict(loops)[likely[0]] - at
+    if most == 1 and target >= 0 and any(word := image[target : target + 8]) and len(word) == 8:
+        return ""
+    other = " other" if most <= here else ""
+    return f"note: {most}{other} {fitting(most, likely[0])}\n"
+
+
+def fitting(count, begins):
+    fit = "search loop fits if" if count == 1 else "search loops fit if"
+    if begins < 0:
+        drop = f"drop those before it, by tail -c +{1 - begins}"
+        return f"{fit} byte {-begins:06X} of the image is at 000000: {drop}"
+    verb = "try" if count == 1 else "say"
+    return f"{fit} the image begins at {begins:06X}: {verb} --at {begins:X}"
 
 
 def program_at(address, seek_to):
@@ -109,15 +122,21 @@ def image_of_preamble(size, loops):
 
 
 ODD = 0x1235
+FIRST_REGION = [(0, 0), (16, 0), (32, 0)]
 # images by name, with what --at is, and the address that the note names
 CASES = [
     ("two loops", image_of_preamble(0x100, [(0, 0x2000), (0x40, 0x2000)]), 0, 0x2000),
-    ("one loop", image_of_preamble(0x100, [(0, 0x2000)]), 0, None),
+    ("one loop", image_of_preamble(0x100, [(0, 0x2000)]), 0, 0x2000),
+    ("one loop that leads to bytes", image_of_preamble(0x100, [(0, 0x20), (40, 0)]), 0, None),
+    ("one loop that leads to its search", image_of_preamble(0x100, [(16, -16)]), 0, -16),
+    ("one loop at --at", image_of_preamble(0x100, [(0, 0x2000)]), 0x2000, None),
+    ("one loop beside one at --at", image_of_preamble(0x100, [(0, 0), (16, 0x2000)]), 0, None),
+    ("two loops that don't agree", image_of_preamble(0x100, [(0, 8), (16, 0x2000)]), 0, None),
     ("no loop", bytes(0x100), 0, None),
     ("no byte", b"", 0, None),
     ("two loops at odd places", image_of_preamble(0x100, [(3, ODD), (0x43, ODD)]), 0, ODD),
     ("a tie", image_of_preamble(0x100, [(0, 0x800), (16, 0x900), (32, 0x800), (48, 0x900)]), 0, None),
-    ("as many as --at", image_of_preamble(0x100, [(0, 0), (16, 0), (32, 0x800), (48, 0x800)]), 0, None),
+    ("as many as --at", image_of_preamble(0x100, [(0, 0), (16, 0), (32, 0x800), (48, 0x800)]), 0, 0x800),
     ("one more than --at", image_of_preamble(0x100, [(0, 0x800), (16, 0x800), (32, 0)]), 0, 0x800),
     (
         "a wrong majority",
@@ -126,7 +145,10 @@ CASES = [
         0x3000,
     ),
     ("the majority at --at", image_of_preamble(0x100, [(0, 0x2000), (16, 0x2000)]), 0x2000, None),
-    ("before storage", image_of_preamble(0x100, [(0x40, -8), (0x60, -8)]), 0, None),
+    ("a second region", image_of_preamble(0x100, [*FIRST_REGION, (64, 0x800), (80, 0x800)]), 0, 0x800),
+    ("a tie of further regions", image_of_preamble(0x100, [*FIRST_REGION, (64, 8), (80, 16)]), 0, None),
+    ("before storage", image_of_preamble(0x100, [(0x40, -8), (0x60, -8)]), 0, -8),
+    ("one loop before storage", image_of_preamble(0x100, [(0x40, -8)]), 0, -8),
     ("past the largest storage", image_of_preamble(0x100, [(0, 0xFFFF08), (16, 0xFFFF08)]), 0, None),
     ("up to its end", image_of_preamble(0x100, [(0, 0xFFFF00), (16, 0xFFFF00)]), 0, 0xFFFF00),
 ]
@@ -153,15 +175,16 @@ def found(program, image, *words):
 def check_cases(checks, program):
     for name, image, at, begins in CASES:
         note = note_of(image, at)
-        seen = re.findall(r"at (\w{6}):", note)
-        wanted = [] if begins is None else [f"{begins:06X}"]
+        seen = re.findall(r" (?:begins at|byte) (\w{6})", note)
+        wanted = [] if begins is None else [f"{abs(begins):06X}"]
         checks.expect(f"the model's note on {name}", wanted, seen)
         checks.expect(name, (0, note), found(program, image, "--at", f"{at:X}"))
+    one_left = f"note: 1 {fitting(1, 0x800)}\n"
     for name, changes in NONE_BY.items():
         image = bytearray(image_of_preamble(0x100, [(0, 0x800), (0x40, 0x800)]))
         for at, byte in changes.items():
             image[0x40 + at] = byte
-        checks.expect(f"a loop with {name}", (0, ""), found(program, bytes(image)))
+        checks.expect(f"a loop with {name}", (0, one_left), found(program, bytes(image)))
     for code in (0xB1, 0x39, 0xE9):
         image = loop_at(0, 0x800, code) + loop_at(16, 0x800, 0x71)
         checks.expect(f"a loop by {code:02X}", (0, note_of(image)), found(program, image))
@@ -179,6 +202,19 @@ def cuts(random):
     return [8, 1, *at_words, *between]
 
 
+def check_fronts(checks, program):
+    """Bytes before the one at address 0, more and fewer than the programs' addresses."""
+    whole = bytes(BEGINS) + core()
+    lines = run(program, "find", *DEVICE, given=whole).output
+    for size in (1, 0x1FFF, 0x2000, 0x10000, 0x10005):
+        image = bytes(size) + whole
+        said = found(program, image)
+        checks.expect(f"{size:X} bytes in front", (0, note_of(image)), said)
+        number = int(re.search(r"tail -c \+(\d+)\n", said[1])[1])
+        ran = run(program, "find", *DEVICE, given=image[number - 1 :])
+        checks.expect(f"without {size:X} bytes in front", (lines, ""), (ran.output, ran.error))
+
+
 def check_cuts(checks, program, random):
     whole = core()
     expected = run(program, "find", *DEVICE, "--at", f"{BEGINS:X}", given=whole)
@@ -188,7 +224,7 @@ def check_cuts(checks, program, random):
         image = whole[cut:]
         left = sum(address + 8 >= BEGINS + cut for address in PROGRAMS)
         at = f"{BEGINS + cut:X}"
-        note = f"note: {left} search loops fit if the image begins at 00{at}: say --at {at}\n"
+        note = f"note: {left} {fitting(left, BEGINS + cut)}\n"
         checks.expect(f"the note on a cut at {cut:X}", (0, note), found(program, image))
         ran = run(program, "find", *DEVICE, "--at", at, given=image)
         # a program that is cut may begin at a later CCW
@@ -269,6 +305,7 @@ def check_texts(checks, program):
 def check(checks, built):
     program, random = built.chanv(), Random(SEED)
     check_cases(checks, program)
+    check_fronts(checks, program)
     check_cuts(checks, program, random)
     check_noise(checks, program, random)
     check_decks(checks, program)

@@ -173,6 +173,13 @@ def said_beside(deck, name="", is_among=False):
     return "".join(f"{front}{line}\n" for line in lines)
 
 
+def said_openly(deck):
+    """How to cure the no on a deck's program under its open job, as `why` says it over a FILE."""
+    answer = Answer(job_of(deck).opened())
+    lines = [UNSEEN] * is_unseen(answer) + [*help_of(answer)]
+    return "".join(f"{line}\n" for line in lines)
+
+
 def is_unseen(answer):
     """Whether a CCW with a fault of its own leads on: a transfer, or one with a chaining flag."""
     ccws = [ccw_at(answer.job.storage, it.address) for it, fault in answer.faults.items() if fault]

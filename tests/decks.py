@@ -18,6 +18,7 @@ from examples import (
     status_of_needs,
     verdicts_of,
 )
+from cures import said_openly
 from needs import NO_JOB
 from running import Ran, run, text_of
 
@@ -36,7 +37,8 @@ def check_deck(checks, program, deck, verdict):
         text = text_of(deck.with_suffix(f".{ending}"))
         ended = status_of_needs(text) if ending == "needs" else status
         error = notes if ending in ("why", "all") else ""
-        error = NO_JOB if ending == "needs" and ended == 1 else error
+        if ending == "needs" and ended == 1:
+            error = NO_JOB + said_openly(text_of(deck))
         ran = run(program, *COMMANDS[ending].split(), given=deck)
         checks.expect(f"{COMMANDS[ending]} {name}", Ran(ended, text, error), ran)
 

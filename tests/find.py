@@ -240,7 +240,7 @@ def check_large(checks, program):
 
 
 # what `beginnings` tries
-FITTING = re.compile(r"note: \d+ search loops fit if the image begins at (\w+): say --at \w+")
+FITTING = re.compile(r"note: \d+(?: other)? search loops? fits? if .+")
 NONE_FOUND = (
     "note: no program found; if the image is a part of storage, give --at and --storage\n"
 )

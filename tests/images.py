@@ -10,6 +10,7 @@ import tempfile
 from pathlib import Path
 
 from building import short
+from cures import said_openly
 from examples import EXAMPLES, FOLDERS, SEARCH_LOOP, TEXTS, decks_of, taken_apart
 from needs import CURE, least_lines
 from rows import Row, check_rows, sections_of, usage_fault
@@ -26,6 +27,7 @@ TOO_LONG, TOO_LONG_SAID = bytes(0x1000001), Ran(2, "", "chanv: image too long\n"
 USUAL_DEVICE = "note: no --device, so 2314\n"
 HEAD = "chanv deck 1\ndevice 2314\nmask 00\nstart {}\nextent {}\n"
 OUTSIDE = "note: {} lies outside the image, so it is zero here\n"
+HELP = r"(?:.*\n)?(?:help: .*\n)+"
 IS_DECK = "note: this is a deck; chanv verify judges it\n"
 PAST = "chanv: image past storage\n"
 
@@ -40,9 +42,10 @@ def lines_of(column):
     return column.replace("; ", "\n") + "\n"
 
 
-def only_note(note, word):
-    """The pattern of a text in which no line has a word, but for this note, if there is one."""
-    return re.compile(rf"(?:(?!.*{re.escape(word)}).*\n)*{re.escape(note)}")
+def only_note(note, word, behind=""):
+    """The pattern of a text in which no line has a word, but for this note, if there is one, before
+    what matches the last pattern."""
+    return re.compile(rf"(?:(?!.*{re.escape(word)}).*\n)*{re.escape(note)}{behind}")
 
 
 def deck(words, expected, given=b"", about=""):
@@ -88,10 +91,11 @@ def rows_of_file():
     for name, words, image, size, outside, why in sections["no job"]:
         notes = "" if size == "-" else CURE.format(size)
         notes += "" if outside == "-" else OUTSIDE.format(outside)
-        expected = Ran(1, "", f"chanv: no job will do: {lines_of(why)}{notes}")
+        help_line = f"help: chanv explain {why.partition(';')[0].split()[2]}\n"
+        expected = Ran(1, "", f"chanv: no job will do: {lines_of(why)}{notes}{help_line}")
         yield deck(["--least", *words.split()], expected, image_of(image), name)
     for name, words, image, *note in sections["starts"]:
-        error = only_note("".join(f"{line}\n" for line in note), " --start ")
+        error = only_note("".join(f"{line}\n" for line in note), " --start ", HELP)
         yield deck(["--least", *words.split()], Ran(1, "", error), image_of(image), name)
 
 
@@ -120,7 +124,8 @@ def rows_of_images():
         for image, expected in [(LOOP_STORAGE, Ran(0, LOOP)), (TOO_LONG, too_long)]:
             Path(file.name).write_bytes(image)
             yield deck([*JOB, file.name], expected)
-    yield deck([*least, CORE], Ran(1, "", f"chanv: {CORE}: no job will do: {why}"))
+    openly = said_openly(CORE_DECK)
+    yield deck([*least, CORE], Ran(1, "", f"chanv: {CORE}: no job will do: {why}{openly}"))
     size = int(re.search("storage (.*)", CORE_DECK)[1], 16)
     lent = f"fetch 000000 {size:06X}\nstore 000000 {size:06X}\nstorage"
     granted = f"mask C0\nstart 000800\nextent 000 202\n{lent}"

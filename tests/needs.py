@@ -12,12 +12,14 @@ import re
 import sys
 
 from building import HERE, short
+from cures import said_openly
 from examples import EXAMPLES, FOLDERS, TEXTS, decks_of, taken_apart
 from running import Ran, run, text_of
 
 sys.path.insert(0, str(HERE / "model"))
 
-from judging import NUMBER  # noqa: E402
+from judging import NUMBER, first_place, own_fault  # noqa: E402
+from writing import job_of as job_in  # noqa: E402
 
 CURE = (
     "note: storage has {} bytes; give --storage if it has more, and --at if the image begins"
@@ -139,15 +141,15 @@ def cure_of(deck, explanation):
 
 def start_note(deck, explanation):
     """The note on a start whose digits are those of a CCW's address in decimal, if the program has
-    no command at its start."""
+    no command at its start, and the CCW there no fault."""
     _, address, reason = explanation.partition("\n")[0].split(" ")
     [start] = re.findall(r"(?m)^start (\w+)$", deck)
-    [size] = re.findall(r"(?m)^storage (\w+)$", deck)
     digits = start.lstrip("0") or "0"
     if address != start or NUMBER[reason] > 8 or not digits.isdecimal():
         return ""
     decimal = int(digits)
-    is_there = decimal % 8 == 0 and decimal + 8 <= int(size, 16) and decimal != int(start, 16)
+    there = job_in(deck).opened()._replace(start=decimal)
+    is_there = decimal != int(start, 16) and own_fault(there, first_place(there)) is None
     said = f"note: --start {digits} is hexadecimal; decimal {digits} is --start {decimal:X}\n"
     return said if is_there else ""
 
@@ -187,7 +189,7 @@ def check_several(checks, program):
     """Over several FILEs each deck comes under a line with its FILE; a limit makes version 2."""
     loop, changes = EXAMPLES / "search-loop.deck", EXAMPLES / "changes-itself.deck"
     text = f"{loop}:\n{run(program, 'needs', '--deck', loop).output}{changes}:\n"
-    why = run(program, "needs", changes).output + NO_JOB
+    why = run(program, "needs", changes).output + NO_JOB + said_openly(text_of(changes))
     error = "".join(f"{changes}: {line}" for line in why.splitlines(keepends=True))
     ran = run(program, "needs", loop, "--deck", changes)
     checks.expect("needs --deck over two", Ran(1, text, error), ran)
@@ -207,13 +209,14 @@ def check_deck(checks, program, path):
     verdict = run(program, "verify", given=path)
     ran = run(program, "needs", given=path)
     made = made_of_image(program, deck)
-    error = NO_JOB if ran.status == 1 else ""
+    openly = said_openly(deck) if ran.status == 1 else ""
+    error = NO_JOB + openly if ran.status == 1 else ""
     checks.expect(f"what is said beside the needs of {name}", error, ran.error)
     check_deck_of_needs(checks, program, path, ran)
     if ran.status == 1:
         checks.expect(f"no job will do: {name}", 1, verdict.status)
         notes = cure_of(deck, ran.output) + start_note(deck, ran.output)
-        refused = f"chanv: no job will do: {ran.output}{notes}"
+        refused = f"chanv: no job will do: {ran.output}{notes}{openly}"
         checks.expect(f"deck --least: {name}", Ran(1, "", refused), made)
         return
     needed = job_of(ran.output.splitlines())

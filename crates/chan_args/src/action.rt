@@ -1,8 +1,5 @@
 //! What a command does with a deck.
 
-ghost use Rattle.std.specs.Prelude.{◌≡◌};
-ghost use Rattle.chan_args.specs.Actions.{is_why};
-
 /// The action of a run on the deck.
 #[derive(Clone, Copy, PartialEq, Eq)]
 pub enum Action {
@@ -30,13 +27,4 @@ pub enum Explained {
     All,
     /// The first offence at this address in place of the verdict's, and no other.
     At(u32),
-}
-
-impl Action {
-    /// Whether it explains the verdict.
-    pub fn is_why(self) -> bool
-        ensures { result ≡ is_why self }
-    {
-        matches!(self, Action::Why(_))
-    }
 }

@@ -6,22 +6,78 @@ use ckd_core::{Kind, lookup};
 use std::alloc::{AllocError, Global};
 use std::fmt::Write as _;
 
-/// The notes on an image that begins at this address: that it is text, and that its search loops
-/// fit if it begins at another address. An error means that an allocation failed.
+/// A search loop of an image, a search and a transfer back to it.
+#[derive(Clone, Copy, PartialEq, Eq, PartialOrd, Ord)]
+struct SearchLoop {
+    /// Where the image begins if it is one: the address of the image's first byte, plus
+    /// `STORAGE_LIMIT`, since the byte at address 0 may come later.
+    begin: u32,
+    /// The address to which the transfer leads.
+    target: u32,
+}
+
+/// The notes on an image that begins at this address: that it is text, and where else its search
+/// loops fit. An error means that an allocation failed.
 pub fn image_notes(alloc: Global, at: u32, image: &[u8]) -> Result<Vec<u8>, AllocError> {
     let mut text = String::from_str(alloc, text_note(image))?;
-    let mut begins = beginnings(alloc, image)?;
-    begins.sort_unstable();
-    if let Some((likely, votes)) = most_voted(&begins) {
-        if votes > 1 && votes > votes_for(&begins, at) {
-            write!(
-                text,
-                "note: {votes} search loops fit if the image begins at {likely:06X}: \
-                 say --at {likely:X}\n"
-            )?;
+    let mut loops = search_loops(alloc, image)?;
+    loops.sort_unstable();
+    let here = at.saturating_add(STORAGE_LIMIT);
+    let fit_here = votes_for(&loops, here);
+    if let Some((likely, votes)) = most_voted(&loops, here) {
+        let is_sure = votes > 1 || (fit_here == 0 && !leads_to_bytes(image, at, likely.target));
+        if is_sure {
+            push_loops(&mut text, votes, if votes > fit_here { "" } else { " other" })?;
+            push_begin(&mut text, likely.begin, votes)?;
         }
     }
     Ok(text.into_bytes())
+}
+
+/// Whether an image that begins at this address has a doubleword at another that isn't zero.
+fn leads_to_bytes(image: &[u8], at: u32, address: u32) -> bool {
+    let Some(offset) = address.checked_sub(at) else {
+        return false;
+    };
+    let word: Option<&[u8; 8]> = image.get(offset as usize..).unwrap_or(&[]).first_chunk();
+    match word {
+        Some(word) => *word != [0; 8],
+        None => false,
+    }
+}
+
+/// Adds that so many search loops fit.
+fn push_loops(text: &mut String, votes: usize, other: &str) -> Result<(), AllocError> {
+    write!(text, "note: {votes}")?;
+    text.push_str(other)?;
+    text.push_str(if votes == 1 {
+        " search loop fits if "
+    } else {
+        " search loops fit if "
+    })
+}
+
+/// Adds where the image then begins, and what to say. A single loop may be one by accident.
+fn push_begin(text: &mut String, begin: u32, votes: usize) -> Result<(), AllocError> {
+    let Some(address) = begin.checked_sub(STORAGE_LIMIT) else {
+        return push_front(text, STORAGE_LIMIT.saturating_sub(begin));
+    };
+    let verb = if votes == 1 { "try" } else { "say" };
+    write!(
+        text,
+        "the image begins at {address:06X}: {verb} --at {address:X}\n"
+    )?;
+    Ok(())
+}
+
+/// Adds that so many bytes stand before the byte at address 0, and how to drop them.
+fn push_front(text: &mut String, bytes: u32) -> Result<(), AllocError> {
+    let first = bytes.saturating_add(1);
+    write!(
+        text,
+        "byte {bytes:06X} of the image is at 000000: drop those before it, by tail -c +{first}\n"
+    )?;
+    Ok(())
 }
 
 /// The note on an image that is text: hexadecimal digits and white space, and from the first colon
@@ -43,15 +99,16 @@ fn text_note(image: &[u8]) -> &'static str {
     ""
 }
 
-/// For each search loop of an image, a search and a transfer back to it, the address at which the
-/// image begins if the loop is one.
-fn beginnings(alloc: Global, image: &[u8]) -> Result<Vec<u32>, AllocError> {
+/// The search loops of an image.
+fn search_loops(alloc: Global, image: &[u8]) -> Result<Vec<SearchLoop>, AllocError> {
     let mut found = Vec::new(alloc);
     for offset in 0..image.len() {
         if let Some(target) = loop_target(&image[offset..]) {
-            if let Some(begins) = u64::from(target).checked_sub(offset as u64) {
-                if begins + image.len() as u64 <= u64::from(STORAGE_LIMIT) {
-                    found.push(begins as u32)?;
+            let begin = u64::from(target.saturating_add(STORAGE_LIMIT)).checked_sub(offset as u64);
+            if let Some(begin) = begin {
+                if begin.saturating_add(image.len() as u64) <= 2 * u64::from(STORAGE_LIMIT) {
+                    let begin = begin as u32;
+                    found.push(SearchLoop { begin, target })?;
                 }
             }
         }
@@ -75,15 +132,19 @@ fn loop_target(bytes: &[u8]) -> Option<u32> {
     Some(transfer.address())
 }
 
-/// The address that comes more often than any other among addresses in order, and how often.
-fn most_voted(sorted: &[u32]) -> Option<(u32, usize)> {
+/// A loop of those that agree on a beginning, more than on any other besides this one, and how many
+/// they are.
+fn most_voted(sorted: &[SearchLoop], without: u32) -> Option<(SearchLoop, usize)> {
     let (mut found, mut most, mut run) = (None, 0usize, 0usize);
     for at in 0..sorted.len() {
-        run = if at > 0 && sorted[at - 1] == sorted[at] {
+        run = if at > 0 && sorted[at - 1].begin == sorted[at].begin {
             run.saturating_add(1)
         } else {
             1
         };
+        if sorted[at].begin == without {
+            continue;
+        }
         if run > most {
             (found, most) = (Some((sorted[at], run)), run);
         } else if run == most {
@@ -93,11 +154,11 @@ fn most_voted(sorted: &[u32]) -> Option<(u32, usize)> {
     found
 }
 
-/// How often an address comes among some.
-fn votes_for(addresses: &[u32], address: u32) -> usize {
+/// How many loops fit a beginning.
+fn votes_for(loops: &[SearchLoop], begin: u32) -> usize {
     let mut votes = 0usize;
-    for other in addresses {
-        if *other == address {
+    for search in loops {
+        if search.begin == begin {
             votes = votes.saturating_add(1);
         }
     }

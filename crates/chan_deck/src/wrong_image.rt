@@ -2,7 +2,7 @@
 
 use crate::notes::storage_note;
 use ccw_core::{Area, STORAGE_LIMIT};
-use chan_walk::{Evidence, Job, Reason, Verdict};
+use chan_walk::{Evidence, Job, Reason, Verdict, fault_at, first_place};
 use chan_why::Witness;
 use std::alloc::{AllocError, Global};
 
@@ -66,7 +66,7 @@ fn unread_note(alloc: Global, address: u32) -> Result<String, AllocError> {
 }
 
 /// The note that the address of the start was read in hexadecimal, if no command is there and its
-/// digits are the decimal digits of an address at which a CCW was read.
+/// digits are the decimal digits of an address at which a CCW was read that has no fault.
 fn start_note(
     alloc: Global,
     job: &Job,
@@ -80,14 +80,23 @@ fn start_note(
             if address == start
                 && reason.is_no_command()
                 && decimal != start
-                && job.storage.ccw_at(decimal).is_some()
-                && has_range(read, decimal, 8) => {
+                && has_range(read, decimal, 8)
+                && is_faultless_at(job, decimal) => {
             format!(in alloc;
                 "note: --start {digits} is hexadecimal; decimal {digits} is --start {decimal:X}\n"
             )
         }
         _ => Ok(String::new(alloc)),
     }
+}
+
+/// Whether the CCW at an address has no fault of its own, if a job begins there.
+fn is_faultless_at(job: &Job, address: u32) -> bool {
+    let there = Job {
+        start: address,
+        ..*job
+    };
+    fault_at(&there, first_place(&there)).is_none()
 }
 
 /// Whether a verdict may come from wrong ends of the image: data goes past the end of storage, or

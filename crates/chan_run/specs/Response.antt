@@ -5,7 +5,6 @@ use Rattle.std.specs.Prelude.{None, Some, is_some, option_map}
 use Rattle.std.specs.Global.{Vec}
 use Rattle.std.specs.Io.KnownBytes.{Appends}
 use Rattle.ccw_core.specs.Written.{AppendsPrefix}
-use Rattle.chan_args.specs.Actions.{is_why}
 use Rattle.chan_args.specs.declared.action.Action.{Action}
 use Rattle.chan_deck.specs.Refused.{IsRefused}
 use Rattle.chan_deck.specs.declared.cause.Cause.{Cause}
@@ -14,7 +13,7 @@ use Rattle.chan_walk.specs.Places.{HasMoreThan}
 use Rattle.chan_walk.specs.declared.job.Job.{Job}
 use Rattle.chan_walk.specs.declared.verdict.Verdict.{Verdict}
 use Rattle.chan_walk.specs.declared.verdict.Verdict.TheVariants.{Yes, No}
-use Rattle.chan_run.specs.Advice.{is_advised, always_hints}
+use Rattle.chan_run.specs.Advice.{is_advised, always_hints, tells_limit}
 use Rattle.chan_run.specs.Input.{IsInput, IsReadFault}
 use Rattle.chan_run.specs.Name.{name_of}
 use Rattle.chan_run.specs.Outcome.{IsCarriedOut, line_over}
@@ -78,7 +77,7 @@ pub record IsLimitResponse (n : Naming) (a : Action) (j : Job) (r : Response) : 
   pub many : HasMoreThan j j.limit
   pub outcome : r.outcome ≡ Failed failures.TooManyPlaces
   pub output : r.output.items ≡ []
-  pub advice : IsWantedAdvice (is_why a) (advice_in r.advice)
+  pub advice : IsWantedAdvice (is_some n.name || tells_limit a) (advice_in r.advice)
   pub note : r.note.now ≡ []
 
 -- the text isn't a deck; the hint comes if it is explained or drawn, or has a name

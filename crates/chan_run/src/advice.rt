@@ -1,12 +1,11 @@
 //! What is said beside the answer on a text, as lines. Tests hold the texts.
 
 ghost use Rattle.std.specs.Prelude.{◌≡◌, ◌||◌, is_some};
-ghost use Rattle.chan_args.specs.Actions.{is_why};
 ghost use Rattle.chan_walk.specs.JobSurvey.{IsSurvey};
-ghost use Rattle.chan_run.specs.Advice.{always_hints};
+ghost use Rattle.chan_run.specs.Advice.{always_hints, tells_limit};
 ghost use Rattle.chan_run.specs.Response.{IsWantedAdvice, advice_in};
 
-use crate::explained::{explained_offence, first_explanation};
+use crate::explained::{explained_offence, explained_witness, why_text};
 use crate::name::{Naming, named};
 use chan_args::{Action, Explained};
 use chan_deck::{
@@ -46,24 +45,32 @@ fn always_hints(action: Action) -> bool
     matches!(action, Action::Why(_) | Action::Graph)
 }
 
-/// For `Why`, what the limit on places is, and how it may be raised.
+/// What the limit on places is, and how it may be raised, unless the answer is one line.
 pub(crate) fn limit_advice(
     alloc: Global,
     naming: Naming<'_>,
     action: Action,
     limit: Limit,
 ) -> Option<Vec<u8>>
-    ensures { IsWantedAdvice (is_why action) (advice_in result) }
+    ensures { IsWantedAdvice (is_some naming.entry.name || tells_limit action)
+        (advice_in result) }
 {
-    if !action.is_why() {
+    if !(naming.name.is_some() || tells_limit(action)) {
         return Some(Vec::new(alloc));
     }
     let text = limit_note(alloc, limit).ok()?;
     fronted(alloc, naming, text.as_bytes()).ok()
 }
 
+/// Whether the limit on places is told whether or not the input has a name.
+fn tells_limit(action: Action) -> bool
+    ensures { result ≡ tells_limit action }
+{
+    !matches!(action, Action::Verify | Action::List { .. })
+}
+
 /// The advice on what a program needs that was surveyed under its open job: if the verdict is no, a
-/// note, and before it the explanation, if the output is to be a deck.
+/// note and how to cure it, and before them the explanation, if the output is to be a deck.
 pub(crate) fn needs_advice(
     alloc: Global,
     naming: Naming<'_>,
@@ -73,15 +80,33 @@ pub(crate) fn needs_advice(
 ) -> Option<Vec<u8>>
     requires { IsSurvey job.now survey.now }
 {
-    let mut text = String::new(alloc);
-    if let Verdict::No { .. } = survey.verdict() {
-        if deck {
-            let why = first_explanation(alloc, job, survey).ok()?;
-            text.push_str(why.as_str()).ok()?;
+    match survey.verdict() {
+        Verdict::Yes => Some(Vec::new(alloc)),
+        Verdict::No { .. } => {
+            let text = no_job_advice(alloc, deck, job, survey).ok()?;
+            fronted(alloc, naming, text.as_bytes()).ok()
         }
-        text.push_str(NO_JOB).ok()?;
     }
-    fronted(alloc, naming, text.as_bytes()).ok()
+}
+
+/// That advice where no job will do.
+fn no_job_advice(
+    alloc: Global,
+    deck: bool,
+    job: &Job,
+    survey: &Survey,
+) -> Result<String, AllocError>
+    requires { IsSurvey job.now survey.now }
+{
+    let witness = explained_witness(alloc, Explained::First, job, survey)?;
+    let mut text = String::new(alloc);
+    if deck {
+        text.push_str(why_text(alloc, Explained::First, job, survey, &witness)?.as_str())?;
+    }
+    text.push_str(NO_JOB)?;
+    text.push_str(unseen_note(survey))?;
+    text.push_str(help_on(alloc, Explained::First, job, survey, &witness)?.as_str())?;
+    Ok(text)
 }
 
 /// A text with the name of one of several inputs before each line.
@@ -175,7 +200,7 @@ fn absent_advice(
 }
 
 /// The lines of help on the offence that is explained.
-fn help_on(
+pub(crate) fn help_on(
     alloc: Global,
     explained: Explained,
     job: &Job,

@@ -5,11 +5,12 @@ ghost use Rattle.chan_run.specs.Name.{name_in};
 ghost use Rattle.chan_run.specs.NoJob.{IsExplainedOpenly, no_job_line};
 ghost use Rattle.chan_walk.specs.JobSurvey.{IsSurvey};
 
+use crate::advice::help_on;
 use crate::explained::{explained_witness, why_text};
 use crate::name::named;
 use ccw_core::Area;
 use chan_args::Explained;
-use chan_deck::no_job_notes;
+use chan_deck::{no_job_notes, unseen_note};
 use chan_walk::{Job, Survey};
 use std::alloc::{AllocError, Global};
 
@@ -27,8 +28,8 @@ pub(crate) fn no_job_text(
     Ok(format!(in alloc; "chanv: {name}{mark}no job will do: {why}")?)
 }
 
-/// The explanation of the verdict on an open job that was surveyed, and how to cure it; `read` is
-/// what was read of the image.
+/// The explanation of the verdict on an open job that was surveyed, with notes and how to cure it;
+/// `read` is what was read of the image.
 pub(crate) fn open_explanation(
     alloc: Global,
     open_job: &Job,
@@ -41,5 +42,7 @@ pub(crate) fn open_explanation(
     let witness = explained_witness(alloc, Explained::First, open_job, survey)?;
     let explanation = why_text(alloc, Explained::First, open_job, survey, &witness)?;
     let notes = no_job_notes(alloc, open_job, survey.verdict(), &witness, read)?;
-    Ok(format!(in alloc; "{explanation}{notes}")?)
+    let unseen = unseen_note(survey);
+    let help = help_on(alloc, Explained::First, open_job, survey, &witness)?;
+    Ok(format!(in alloc; "{explanation}{notes}{unseen}{help}")?)
 }
