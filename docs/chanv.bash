@@ -40,7 +40,10 @@ _chanv() {
     else
         case ${COMP_WORDS[1]} in
         help) words=$commands files= ;;
-        list) words='--wide --help' ;;
+        list)
+            [[ $before == --range ]] && return
+            words='--wide --range --help'
+            ;;
         why)
             [[ $before == --of ]] && return
             words='--all --of --help'

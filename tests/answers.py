@@ -12,6 +12,7 @@ from cures import said_beside, said_openly
 from examples import EXAMPLES, SEARCH_LOOP, TEXTS, listed_with, picture_of, status_of
 from examples import status_of_needs, verdicts_of
 from find import NONE_FOUND
+from model import limit_line
 from needs import NO_JOB, least_lines
 from running import Ran, text_of
 
@@ -36,10 +37,6 @@ WIDE = """\
    000810    fresh    --L--0  000A00-000A4F   read-data            stores
 yes
 """
-LIMIT = (
-    "the limit is {}; the line limit of a deck of version 2, or --limit of chanv deck, may raise it"
-    " to 65536\n"
-)
 FOUND = "000800 no 000818 changes-argument 4 CCWs: seek, search-id-equal, read-data\n"
 MASK_HINT = "found mask\n          ^\nexpected mask XX, where X is 0-9 or A-F\n"
 ENDED_HINT = "found the end of the text\nexpected chanv deck 1, chanv deck 2\n"
@@ -50,7 +47,7 @@ REFUSED = {
     "damaged": (2, "deck line 3: form\n", MASK_HINT),
     "empty": (2, "deck line 1: ended\n", ENDED_HINT),
     "no right": (2, "deck line 1: ended\n", ENDED_HINT),
-    "many": (2, "too many places\n", LIMIT.format(2)),
+    "many": (2, "too many places\n", f"{limit_line(2)}\n"),
     "long": (2, "deck too long\n", ""),
     "folder": (3, "read failed: it is a folder\n", ""),
     "nowhere": (3, "cannot open: no such file\n", ""),

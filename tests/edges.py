@@ -4,9 +4,10 @@ import re
 from itertools import product
 from pathlib import Path
 
-from answers import LIMIT, MOST_BYTES
+from answers import MOST_BYTES
 from cures import UNSEEN
 from examples import SEARCH_LOOP
+from model import limit_line
 from rows import Row, check_rows
 from running import Ran
 from wide import two_ways_deck
@@ -102,8 +103,8 @@ def rows_of_limits():
     yield over(chain_of(4097, 4097), YES)
     yield over(chain_of(4098, 4097), MANY)
     for limit in (2, 5000, 65535, 65536):
-        said = "the limit is 65536, and none is higher\n" if limit == 65536 else LIMIT.format(limit)
-        yield over(chain_of(limit + 1, limit), MANY._replace(error=MANY.error + said), "why")
+        said = f"{MANY.error}{limit_line(limit)}\n"
+        yield over(chain_of(limit + 1, limit), MANY._replace(error=said), "why")
     # a reader of the first row alone: of a listing that fits a pipe, and of one that doesn't
     yield Row(["list"], Ran(0, SEARCH.format(".")), SEARCH_LOOP, FIRST_ROW)
     row = "000800 fresh t . 03 000000 -C---0 00 0001 control no-operation\n"

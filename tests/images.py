@@ -12,6 +12,7 @@ from pathlib import Path
 from building import short
 from cures import said_openly
 from examples import EXAMPLES, FOLDERS, SEARCH_LOOP, TEXTS, decks_of, taken_apart
+from model import limit_line
 from needs import CURE, least_lines
 from rows import Row, check_rows, sections_of, usage_fault
 from running import Ran, text_of
@@ -115,7 +116,8 @@ def rows_of_images():
         yield deck([*words, SEARCH_LOOP], Ran(status, output, noted))
         yield deck(words, Ran(status, output, unnoted), b"chanv  deck 1\n")
     least, why = ["--start", "800", "--least"], text_of(EXAMPLES / "changes-argument.why")
-    yield deck([*least, "--limit", "2"], Ran(2, "", "chanv: too many places\n"), LOOP_STORAGE)
+    said = f"chanv: too many places\n{limit_line(2)}\n"
+    yield deck([*least, "--limit", "2"], Ran(2, "", said), LOOP_STORAGE)
     for words in (least, JOB):
         yield deck([*words, "none"], Ran(3, "", "chanv: none: cannot open: no such file\n"))
     yield deck([*JOB, EXAMPLES], Ran(3, "", f"chanv: {EXAMPLES}: read failed: it is a folder\n"))

@@ -32,7 +32,17 @@ from running import run, run_in_bash, text_of  # noqa: E402
 
 sys.path.insert(0, str(HERE / "model"))
 
-from judging import endless, needs, offences, reachable  # noqa: E402
+from channel import ccw_at  # noqa: E402
+from judging import (  # noqa: E402
+    FRESH,
+    NUMBER,
+    Place,
+    endless,
+    needs,
+    offences,
+    own_fault,
+    reachable,
+)
 from making import changed, random_job  # noqa: E402
 from stepping import random_run, runs  # noqa: E402
 from writing import (  # noqa: E402
@@ -48,6 +58,7 @@ from writing import (  # noqa: E402
 )
 
 SEED, JOBS = 360, 2500
+MOST_PLACES = 65536
 # an example that is changed and stepped has to be small
 MOST_STORAGE = 0x2000
 RUNS, LENGTH = 4, 30
@@ -89,6 +100,16 @@ class Answer:
         return next(reason for place, reason in self.found if place.address == address)
 
 
+def limit_line(limit):
+    """What is said of the limit on places, if more are reachable."""
+    if limit == MOST_PLACES:
+        return f"the limit is {limit}, and none is higher"
+    return (
+        f"the limit is {limit}; the line limit of a deck of version 2, or --limit of chanv deck, "
+        f"may raise it to {MOST_PLACES}"
+    )
+
+
 def answers_of(program, command, paths):
     """The lines of a command that takes many decks, by their names."""
     ran = run(program, *command.split(), *paths)
@@ -115,7 +136,8 @@ def answers_of_each(program, command, paths):
 def check_job(checks, path, answer, verified, explained, listed):
     name = path.stem
     if answer.is_too_large:
-        checks.expect(f"verify {name}", ["too many places"], verified)
+        wanted = ["too many places", limit_line(answer.job.limit)]
+        checks.expect(f"verify {name}", wanted, verified)
         return
     checks.expect(f"verify {name}", [answer.verdict], verified)
     offending = [line for line in explained if line.startswith(OFFENDS)]
@@ -209,10 +231,33 @@ def check_hang(checks, name, answer, noted):
     checks.expect(f"the note on the end of {name}", wanted, found)
 
 
+def behind_note(answer):
+    """The note on a CCW behind the last one, to which no run comes."""
+    storage, addresses = answer.job.storage, {place.address for place in answer.faults}
+    place = Place(max(addresses) + 8, FRESH, False)
+    ccw = ccw_at(storage, place.address)
+    if ccw is None:
+        return
+    fault = own_fault(answer.job, place)
+    is_well_formed = fault is None or NUMBER[fault] > NUMBER["not-in-table"]
+    is_like_ccw = is_well_formed and storage[place.address + 5] == 0
+    if ccw.address in addresses if ccw.is_transfer() else is_like_ccw:
+        yield f"note: {place.address:06X} looks like a CCW, but no run comes there"
+
+
+def check_behind(checks, name, answer, noted):
+    """After a yes, a note names a CCW right behind the program's last one."""
+    is_yes = not answer.is_too_large and not answer.found
+    wanted = [*behind_note(answer)] if is_yes else []
+    found = [line for line in noted if " looks like a CCW" in line]
+    checks.expect(f"the note on what is behind {name}", wanted, found)
+    return len(found)
+
+
 def check_needs(checks, path, job, needed):
     opened = Answer(job.opened())
     if opened.is_too_large:
-        wanted = [f"chanv: {path}: too many places", "status 2"]
+        wanted = [f"chanv: {path}: too many places", limit_line(job.limit), "status 2"]
     elif opened.found:
         # an explanation of the open job's verdict
         wanted, needed = [opened.verdict, "status 1"], [needed[0], needed[-1]]
@@ -280,12 +325,14 @@ def compare(checks, built, seed, count):
         needed = answers_of_each(program, "needs", answers)
         noted = answers_of_each(program, "why", answers)
         told = zip(answers.items(), listed, needed, noted, strict=True)
+        behind = 0
         for (path, answer), rows, lines, notes in told:
             said = verified[str(path)], explained[str(path)], rows
             check_job(checks, path, answer, *said)
             check_needs(checks, path, answer.job, lines)
             check_hang(checks, path.stem, answer, notes)
             check_path(checks, path.stem, answer, notes)
+            behind += check_behind(checks, path.stem, answer, notes)
             if not answer.is_too_large:
                 check_runs(checks, path.stem, answer, random)
         wide = answers_of_each(program, "list --wide", answers)
@@ -295,6 +342,7 @@ def compare(checks, built, seed, count):
         examples = {deck: Answer(job_of(text_of(deck))) for deck in all_decks()}
         asked += check_explained(checks, program, examples)
         checks.expect_that("many offences are explained", asked > len(answers) // 2, asked)
+    checks.expect_that("some programs have a CCW behind them", 9 < behind < len(answers), behind)
     kinds = {answer.found[0][1] if answer.found else "yes" for answer in answers.values()}
     checks.expect_that("each verdict comes", len(kinds) == 17, sorted(kinds))
     yes = [it for it in answers.values() if not it.is_too_large and not it.found]

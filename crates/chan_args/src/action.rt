@@ -8,6 +8,9 @@ pub enum Action {
     /// Writes a row for each reachable place, and then the line of the verdict; a wide listing is
     /// for people.
     List { wide: bool },
+    /// Writes a row for each doubleword of a range of storage, reached or not, and then the line of
+    /// the verdict.
+    Range { start: u32, len: u32 },
     /// Writes the explanation of the verdict.
     Why(Explained),
     /// Writes the picture of the program in Graphviz's language.

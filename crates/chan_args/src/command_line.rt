@@ -34,6 +34,11 @@ pub enum Request<'a> {
     ExplainOffence(&'a str, Vec<&'a str>),
     /// Nothing: both each cause and the offence at an address are asked for.
     AllWithOf,
+    /// To list the range of storage that the text spells, of the deck of each of these, or of
+    /// standard input if there is none.
+    ListRange(&'a str, Vec<&'a str>),
+    /// Nothing: both a wide listing and that of a range are asked for.
+    WideWithRange,
     /// To say what a word means, which may have blanks between its parts.
     Explain(Vec<&'a str>),
     /// To say what the flags of a listing mean, which begin like an option.
@@ -104,10 +109,17 @@ fn explain_request<'a>(alloc: Global, matches: &ArgMatches<'a>) -> Result<Reques
     Ok(Request::Explain(words))
 }
 
-/// The request to list the places of the decks that clap met.
+/// The request to list the places of the decks that clap met, or a range of their storage.
 fn list_request<'a>(alloc: Global, matches: &ArgMatches<'a>) -> Result<Request<'a>, AllocError> {
     let wide = is_flagged(matches, "wide");
-    request_over(alloc, Action::List { wide }, matches)
+    match text_met(matches, "range") {
+        Some(_) if wide => Ok(Request::WideWithRange),
+        Some(range) => {
+            let files = texts_met(alloc, matches, "FILE")?;
+            Ok(Request::ListRange(range, files))
+        }
+        None => request_over(alloc, Action::List { wide }, matches),
+    }
 }
 
 /// The request to say what the programs of the decks need that clap met.

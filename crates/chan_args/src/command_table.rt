@@ -36,7 +36,7 @@ pub(crate) type CommandRow = (
 
 /// The forms of a command line, for help and for a usage fault before any command.
 const USAGE: &str = "chanv verify [FILE]...
-       chanv list [--wide] [FILE]...
+       chanv list [--wide|--range <AREA>] [FILE]...
        chanv why [--all|--of <ADDRESS>] [FILE]...
        chanv needs [--deck] [FILE]...
        chanv graph [FILE]
@@ -50,7 +50,7 @@ const USAGE: &str = "chanv verify [FILE]...
 // constants, so each stands twice; the test `facts` compares them.
 const USAGE_OF_SHOW: &str = "chanv show [--name] <CCW>";
 
-const USAGE_OF_LIST: &str = "chanv list [--wide] [FILE]...";
+const USAGE_OF_LIST: &str = "chanv list [--wide|--range <AREA>] [FILE]...";
 
 const USAGE_OF_WHY: &str = "chanv why [--all|--of <ADDRESS>] [FILE]...";
 
@@ -82,7 +82,11 @@ The exit status is the greatest of these:
 `chanv explain REASON` explains a reason. `man chanv` names the page on decks.";
 
 /// The end of the help of `list`.
-const OF_LIST: &str = "With several FILEs, each listing comes under a line `FILE:`.
+const OF_LIST: &str =
+    "AREA is hexadecimal: first and last byte (800-82F), or start and length (800+30).
+A CCW with a fault of its own is marked, and the cause follows.
+
+With several FILEs, each listing comes under a line `FILE:`.
 
 The exit status is the same as for `chanv verify`; see its help.";
 
@@ -180,6 +184,13 @@ const WIDE: Word = (
     Given::Flag,
     "",
     "says what each CCW does, for people and not for scripts",
+);
+
+const RANGE: Word = (
+    "range",
+    Given::Valued,
+    "AREA",
+    "lists all of these bytes as CCWs, reached or not",
 );
 
 const AS_DECK: Word = (
@@ -308,7 +319,7 @@ pub(crate) const COMMANDS: &[CommandRow] = &[
         "list",
         "lists the CCWs that the program can reach, and the verdict",
         OF_LIST,
-        &[DECKS, WIDE],
+        &[DECKS, WIDE, RANGE],
         USAGE_OF_LIST,
     ),
     (

@@ -25,6 +25,8 @@ pub enum ImageOption {
     Open,
     /// `--of`, over a deck: the address of the offence that is explained.
     Of,
+    /// `--range`, over a deck: the range of storage that is listed.
+    Range,
 }
 
 /// The job of a deck that is made of an image.

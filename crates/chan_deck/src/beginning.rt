@@ -27,7 +27,11 @@ pub fn image_notes(alloc: Global, at: u32, image: &[u8]) -> Result<Vec<u8>, Allo
     if let Some((likely, votes)) = most_voted(&loops, here) {
         let is_sure = votes > 1 || (fit_here == 0 && !leads_to_bytes(image, at, likely.target));
         if is_sure {
-            push_loops(&mut text, votes, if votes > fit_here { "" } else { " other" })?;
+            push_loops(
+                &mut text,
+                votes,
+                if votes > fit_here { "" } else { " other" },
+            )?;
             push_begin(&mut text, likely.begin, votes)?;
         }
     }

@@ -34,6 +34,7 @@ mod lists;
 mod needs;
 mod notes;
 mod parts;
+mod ranged;
 mod reading;
 mod shape;
 mod spelled;
@@ -57,8 +58,11 @@ pub use crate::hint::hint_text;
 pub use crate::image_note::{deck_note, find_note};
 pub use crate::listing::{ListError, ccw_line, listing_text, row_text, write_listing};
 pub use crate::needs::{in_six_digits, needs_text};
-pub use crate::notes::{absent_note, exchange_note, limit_note, notes_text, room_note};
+pub use crate::notes::{
+    absent_note, behind_note, exchange_note, limit_note, notes_text, room_note,
+};
 pub use crate::parts::{Parts, parts_text, place_image};
+pub use crate::ranged::range_text;
 pub use crate::reading::read_deck;
 pub use crate::shape::shape_of;
 pub use crate::spelled::spelled_text;

@@ -1,9 +1,9 @@
 //! The notes on a job as text, which tests hold.
 
 use crate::listing::way_word;
-use crate::texts::{Address, Digits, Size};
+use crate::texts::{Address, Digits, Size, push_address};
 use ccw_core::{Area, Ccw, Storage};
-use chan_walk::{Limit, Place, Reason};
+use chan_walk::{Entry, Job, Limit, Look, Place, Reason, look_at};
 use chan_why::Notes;
 use std::alloc::{AllocError, Global};
 use std::fmt::Write;
@@ -224,6 +224,58 @@ pub fn room_note(alloc: Global, at: u32, size: u32) -> Result<String, AllocError
             "note: the image begins at {begins}, past storage of {all} bytes\n"
         ),
     }
+}
+
+/// The note on what stands right behind the last of a program's CCWs, if it looks like a CCW to
+/// which no run comes: a well-formed one of a known command, or a transfer into the program. An
+/// error means that an allocation failed.
+pub fn behind_note(alloc: Global, job: &Job, looks: &[Look]) -> Result<String, AllocError> {
+    let mut text = String::new(alloc);
+    let address = last_address(looks).saturating_add(8);
+    if is_like_ccw(job, looks, address) {
+        text.push_str("note: ")?;
+        push_address(&mut text, address)?;
+        text.push_str(" looks like a CCW, but no run comes there\n")?;
+    }
+    Ok(text)
+}
+
+/// The greatest address of some looks.
+fn last_address(looks: &[Look]) -> u32 {
+    let mut last = 0;
+    for look in looks {
+        last = look.place().address.max(last);
+    }
+    last
+}
+
+/// Whether what stands at an address looks like a CCW of a program.
+fn is_like_ccw(job: &Job, looks: &[Look], address: u32) -> bool {
+    let place = Place {
+        address,
+        entered: Entry::Fresh,
+        after_transfer: false,
+    };
+    let look = look_at(job, place);
+    let is_well_formed = match look.fault() {
+        Some(evidence) => evidence.reason().number() > Reason::NotInTable.number(),
+        None => true,
+    };
+    match look.ccw() {
+        Some(ccw) if ccw.is_transfer() => has_place_at(looks, ccw.address()),
+        Some(ccw) => is_well_formed && ccw.spare() == 0,
+        None => false,
+    }
+}
+
+/// Whether some look is at an address.
+fn has_place_at(looks: &[Look], address: u32) -> bool {
+    for look in looks {
+        if look.place().address == address {
+            return true;
+        }
+    }
+    false
 }
 
 /// The note that no offence is at an address. An error means that an allocation failed.

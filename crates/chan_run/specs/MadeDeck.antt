@@ -1,6 +1,7 @@
 -- What an image of storage comes to: its deck on one writer, and what is said of it on another.
-use Rattle.std.specs.Prelude.{◌≡◌, ◌⊎◌, ◌++◌, ℕ, Bool, List, Option, None, Some, []}
+use Rattle.std.specs.Prelude.{◌≡◌, ◌⊎◌, ◌++◌, ℕ, Bool, List, Option, None, Some, [], false, true}
 use Rattle.chan_run.specs.declared.failure.Failure.{Failure}
+use Rattle.chan_run.specs.declared.failure.Failure.TheVariants as failures
 use Rattle.chan_run.specs.declared.image_options.ImageOptions.{ImageOptions}
 use Rattle.chan_run.specs.declared.outcome.Outcome.{Outcome}
 use Rattle.chan_run.specs.declared.outcome.Outcome.TheVariants.{Done, Failed, NoJob}
@@ -8,13 +9,19 @@ use Rattle.chan_run.specs.declared.response.Response.{Response}
 use Rattle.chan_run.specs.Image.{IsDeckText, IsNoDeck, IsNoImage, IsWholeImage}
 use Rattle.chan_deck.specs.ImageNote.{deck_note}
 use Rattle.chan_run.specs.NoJob.{IsNoJobText}
-use Rattle.chan_run.specs.Response.{IsDelivered, IsResponseWithoutOutput, advice_in}
+use Rattle.chan_run.specs.Response.{IsDelivered, IsResponseWithoutOutput, IsWantedAdvice}
+use Rattle.chan_run.specs.Response.{advice_in}
 
 -- this text is why no job will do, with notes on the image, of which tests hold the texts
 abbrev pub IsNoJobAdvice : Option (List ℕ) → ImageOptions → List ℕ → Option (List ℕ) → Type 0
 IsNoJobAdvice name o image None = ⊥
 IsNoJobAdvice name o image (Some text) =
     (why : List ℕ) × (notes : List ℕ) × IsNoJobText name o image why × (text ≡ why ++ notes)
+
+-- too many places are reachable, so the limit is told
+abbrev pub is_past_limit : Outcome → Bool
+is_past_limit (Failed failures.TooManyPlaces) = true
+is_past_limit _ = false
 
 -- what an image comes to, with the output and the advice: its deck, or why there is none
 abbrev pub IsMadeDeck : Option (List ℕ) → ImageOptions → List ℕ → Outcome → List ℕ
@@ -23,7 +30,7 @@ IsMadeDeck name o image Done output advice = IsDeckText o image output
 IsMadeDeck name o image (NoJob a r) output advice =
     IsNoDeck o image (NoJob a r) × (output ≡ []) × IsNoJobAdvice name o image advice
 IsMadeDeck name o image end output advice =
-    IsNoDeck o image end × (output ≡ []) × (advice ≡ Some [])
+    IsNoDeck o image end × (output ≡ []) × IsWantedAdvice (is_past_limit end) advice
 
 -- the answer to an image: that, and a note if it is a deck
 pub record IsImageResponse (name : Option (List ℕ)) (o : ImageOptions) (image : List ℕ)

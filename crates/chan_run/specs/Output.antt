@@ -135,6 +135,7 @@ IsActionOutput n (actions.List false) j v text =
     (ps : List Place) × AreReachable j ps × (text ≡ heading_of n ++ listing (storage_of j) ps v)
 IsActionOutput n (actions.List true) j v text =
     (rows : List ℕ) × (text ≡ heading_of n ++ (rows ++ verdict_line v))
+IsActionOutput n (actions.Range start len) j v text = Unit {0}
 IsActionOutput n (actions.Why told) j v text =
     (why : List ℕ) × IsExplained told j v why × (text ≡ name_before (name_of n) true ++ why)
 IsActionOutput n actions.Graph j v text = IsPictureOf (name_of n) v text

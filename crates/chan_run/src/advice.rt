@@ -9,7 +9,8 @@ use crate::explained::{explained_offence, explained_witness, why_text};
 use crate::name::{Naming, named};
 use chan_args::{Action, Explained};
 use chan_deck::{
-    Cause, absent_note, exchange_note, help_text, hint_text, limit_note, notes_text, unseen_note,
+    Cause, absent_note, behind_note, exchange_note, help_text, hint_text, limit_note, notes_text,
+    unseen_note,
 };
 use chan_walk::{Entry, Job, Limit, Offence, Reason, Survey, Verdict};
 use chan_why::{Witness, hang_from, notes_from, offence_at, seems_exchanged};
@@ -137,7 +138,9 @@ fn notes_on(alloc: Global, job: &Job, survey: &Survey) -> Result<Vec<u8>, AllocE
 {
     let notes = notes_from(alloc, job, survey)?;
     let hang = hang_from(alloc, survey)?;
-    Ok(notes_text(alloc, job.storage, &notes, hang)?.into_bytes())
+    let mut text = notes_text(alloc, job.storage, &notes, hang)?;
+    text.push_str(behind_note(alloc, job, survey.looks())?.as_str())?;
+    Ok(text.into_bytes())
 }
 
 /// What is said of a verdict that is explained by a witness: that no offence is at the address that

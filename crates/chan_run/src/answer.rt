@@ -13,7 +13,10 @@ use crate::advice::{job_advice, needs_advice, why_advice};
 use crate::explained::{explained_witness, first_explanation, why_text};
 use crate::least_job::least_deck_text;
 use crate::name::{Naming, heading_of};
-use crate::output::{Remarks, list_output, picture_output, text_after, verdict_output};
+use crate::output::{
+    Remarks, list_output, picture_output, range_output, text_after, verdict_output,
+};
+use ccw_core::Area;
 use chan_args::{Action, Explained};
 use chan_deck::needs_text;
 use chan_needs::needs_from;
@@ -44,6 +47,13 @@ pub(crate) fn answer_of(
     match action {
         Action::Verify => unadvised(alloc, verdict_output(alloc, naming.name, survey.verdict())),
         Action::List { wide } => unadvised(alloc, list_output(alloc, naming, wide, job, survey)),
+        Action::Range { start, len } => {
+            let range = Area { start, len };
+            unadvised(
+                alloc,
+                range_output(alloc, naming, range, job, survey.verdict()),
+            )
+        }
         Action::Why(explained) => why_answer(alloc, naming, explained, job, &survey),
         Action::Needs { deck } => needs_answer(alloc, naming, deck, job, &survey),
         Action::Graph => unadvised(alloc, graph_output(alloc, naming.name, job, survey)),

@@ -3,11 +3,11 @@
 ghost use Rattle.std.specs.Prelude.{◌≡◌, ◌↔◌, ◌+◌, ◌≤◌, ◌^◌, IfOk, Some, false, length, true};
 ghost use Rattle.chan_run.specs.MadeDeck.{IsImageDelivered, IsImageInputResponse, IsImageResponse};
 ghost use Rattle.chan_run.specs.Image.{HoldsOfOpenJob};
-ghost use Rattle.chan_run.specs.MadeDeck.{IsNoJobAdvice};
+ghost use Rattle.chan_run.specs.MadeDeck.{IsNoJobAdvice, is_past_limit};
 ghost use Rattle.chan_run.specs.NoJob.{IsExplainedOpenly};
 ghost use Rattle.chan_run.specs.Name.{name_in};
 ghost use Rattle.chan_run.specs.Outcome.{IsCarriedOut, IsImageEnd, IsWriteFailure};
-ghost use Rattle.chan_run.specs.Response.{IsInputDelivered};
+ghost use Rattle.chan_run.specs.Response.{IsInputDelivered, IsWantedAdvice, advice_in};
 ghost use Rattle.chan_run.specs.Texts.{WriterGot};
 ghost use Rattle.chan_run.specs.declared.failure.Failure.TheVariants as failures;
 ghost use Rattle.chan_run.specs.declared.outcome.Outcome.TheVariants.{Failed};
@@ -26,7 +26,8 @@ use crate::status::respond_to_input;
 use crate::texts::write_bytes;
 use ccw_core::Watched;
 use chan_args::Action;
-use chan_deck::{deck_note, image_notes, room_note};
+use chan_deck::{deck_note, image_notes, limit_note, room_note};
+use chan_walk::Limit;
 use std::alloc::{AllocError, Global};
 use std::io::{Read, Write};
 
@@ -202,8 +203,22 @@ fn respond_to_image(
             },
             Err(AllocError) => Response::bare(alloc, Outcome::Failed(Failure::OutOfMemory), note),
         },
-        Err(NoLeastJob::Unknown(failure)) => {
-            Response::bare(alloc, Outcome::Failed(failure), note)
-        }
+        Err(NoLeastJob::Unknown(failure)) => Response {
+            outcome: Outcome::Failed(failure),
+            output: Vec::new(alloc),
+            advice: failure_advice(alloc, options, failure),
+            note,
+        },
     }
+}
+
+/// What the limit on places is, and how it may be raised, if too many places are reachable.
+fn failure_advice(alloc: Global, options: &ImageOptions, failure: Failure) -> Option<Vec<u8>>
+    ensures { IsWantedAdvice (is_past_limit (Failed failure)) (advice_in result) }
+{
+    if !matches!(failure, Failure::TooManyPlaces) {
+        return Some(Vec::new(alloc));
+    }
+    let limit = options.limit.unwrap_or(Limit::usual());
+    Some(limit_note(alloc, limit).ok()?.into_bytes())
 }

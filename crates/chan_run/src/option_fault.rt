@@ -19,6 +19,9 @@ const WITH_OPEN: &str = "error: the argument '--open' cannot be used with '";
 /// The same beside each cause.
 const WITH_ALL: &str = "error: the argument '--all' cannot be used with '";
 
+/// The same beside a wide listing.
+const WITH_WIDE: &str = "error: the argument '--wide' cannot be used with '";
+
 /// The text of the usage fault that there is neither an extent nor the least job nor the open job.
 const NO_EXTENT: &str = "error: the following required arguments were not provided:
   <--extent <FIRST-LAST>|--least|--open>";
@@ -99,6 +102,16 @@ pub fn report_all_with_of<W: Write>(to: &mut Watched<W>) -> u8
     ensures { result ≡ 4 }
 {
     let _ = write_grant_fault(WITH_ALL, usage(ImageOption::Of), to);
+    4
+}
+
+/// Writes the text of the usage fault that both a wide listing and that of a range are asked for,
+/// and gives the exit status, 4, as `report_option` does.
+pub fn report_wide_with_range<W: Write>(to: &mut Watched<W>) -> u8
+    requires { to.old.failed ≡ false }
+    ensures { result ≡ 4 }
+{
+    let _ = write_grant_fault(WITH_WIDE, usage(ImageOption::Range), to);
     4
 }
 
@@ -189,5 +202,6 @@ fn usage<'a>(option: ImageOption) -> &'a str {
         ImageOption::Storage => "--storage <SIZE>",
         ImageOption::Open => "--open",
         ImageOption::Of => "--of <ADDRESS>",
+        ImageOption::Range => "--range <AREA>",
     }
 }

@@ -115,6 +115,18 @@ pub fn address_option(text: &str) -> Result<u32, OptionFault<'_>> {
     }
 }
 
+/// The range of storage that is to be listed, or why its text isn't accepted.
+pub fn range_option(text: &str) -> Result<Area, OptionFault<'_>> {
+    match area_of(text) {
+        Ok(range) => Ok(range),
+        Err(why) => Err(OptionFault {
+            option: ImageOption::Range,
+            text,
+            why,
+        }),
+    }
+}
+
 /// The values of the options' texts.
 ///
 /// The options are read in the order of a deck's lines, the image's address and the size of storage

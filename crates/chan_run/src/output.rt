@@ -11,7 +11,8 @@ ghost use Rattle.chan_run.specs.Name.{heading_of, name_before, name_in};
 ghost use Rattle.chan_run.specs.Output.{IsActionOutput};
 
 use crate::name::{Naming, heading_of};
-use chan_deck::{Picture, graph_text, listing_text, verdict_text, wide_listing};
+use ccw_core::Area;
+use chan_deck::{Picture, graph_text, listing_text, range_text, verdict_text, wide_listing};
 use chan_walk::{Evidence, Job, Look, Offence, Place, Survey, Verdict};
 use std::alloc::{AllocError, Global};
 
@@ -78,6 +79,20 @@ fn wide_output(
 {
     let mut text = heading_of(alloc, naming)?;
     let listing = wide_listing(alloc, job, looks, offences, verdict)?;
+    text.extend_from_slice(listing.as_bytes())?;
+    Ok(text)
+}
+
+/// The listing of a range of storage behind its heading. Tests hold it.
+pub(crate) fn range_output(
+    alloc: Global,
+    naming: Naming<'_>,
+    range: Area,
+    job: &Job,
+    verdict: Verdict,
+) -> Result<Vec<u8>, AllocError> {
+    let mut text = heading_of(alloc, naming)?;
+    let listing = range_text(alloc, job, range, verdict)?;
     text.extend_from_slice(listing.as_bytes())?;
     Ok(text)
 }

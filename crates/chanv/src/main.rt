@@ -12,13 +12,14 @@
 ghost use Rattle.std.specs.Prelude.{◌≡◌, ◌↔◌, true};
 ghost use Rattle.chan_run.specs.Outcome.{IsWriteFailure};
 
-use ccw_core::Watched;
+use ccw_core::{Area, Watched};
 use chan_args::{Action, Explained, ImageRequest, Request, read_request};
 use chan_run::{
     Failure, ImageOptions, Naming, OptionError, Outcome, Response, address_option, deliver,
     ends_run, exit_status, explain_word, find_programs, greater_status, judge_deck, list_words,
-    make_deck, note_usual_device, options_of, report, report_all_with_of, report_file,
-    report_grants, report_no_ccw, report_option, report_usage, respond_to_ccw, show, shown_word,
+    make_deck, note_usual_device, options_of, range_option, report, report_all_with_of,
+    report_file, report_grants, report_no_ccw, report_option, report_usage, report_wide_with_range,
+    respond_to_ccw, show, shown_word,
 };
 use std::alloc::AllocError;
 use std::env::{Env, FillError};
@@ -132,6 +133,8 @@ fn carry_out(rt: &HostRuntime, words: &Words) -> u8 {
             explain_offences(rt, words, address, names.as_slice())
         }
         Request::AllWithOf => report_all_with_of(&mut Watched::new(rt.stderr())),
+        Request::ListRange(range, names) => list_ranges(rt, words, range, names.as_slice()),
+        Request::WideWithRange => report_wide_with_range(&mut Watched::new(rt.stderr())),
         Request::Explain(parts) => explain(rt, parts.as_slice()),
         Request::ExplainFlags(flags) => explain(rt, &[flags]),
         Request::Words => list_all_words(rt),
@@ -219,10 +222,23 @@ fn spaced(rt: &HostRuntime, parts: &[&str]) -> Result<String, AllocError> {
 /// Explains the first offence at the address that a text spells, in each of these inputs, or in
 /// standard input if there is none.
 fn explain_offences(rt: &HostRuntime, words: &Words, address: &str, names: &[&str]) -> u8 {
-    let action = match address_option(address) {
-        Ok(address) => Action::Why(Explained::At(address)),
-        Err(fault) => return report_option(fault, &mut Watched::new(rt.stderr())),
-    };
+    match address_option(address) {
+        Ok(address) => run_over_all(rt, words, Action::Why(Explained::At(address)), names),
+        Err(fault) => report_option(fault, &mut Watched::new(rt.stderr())),
+    }
+}
+
+/// Lists the range of storage that a text spells, of each of these inputs, or of standard input if
+/// there is none.
+fn list_ranges(rt: &HostRuntime, words: &Words, range: &str, names: &[&str]) -> u8 {
+    match range_option(range) {
+        Ok(Area { start, len }) => run_over_all(rt, words, Action::Range { start, len }, names),
+        Err(fault) => report_option(fault, &mut Watched::new(rt.stderr())),
+    }
+}
+
+/// Runs over each input, or over standard input if there is none, and gives the exit status.
+fn run_over_all(rt: &HostRuntime, words: &Words, action: Action, names: &[&str]) -> u8 {
     match names {
         [] | ["-"] => exit_status(run_over(rt, action, UNNAMED, Input::Standard(rt.stdin()))),
         _ => run_over_each(rt, words, action, names),

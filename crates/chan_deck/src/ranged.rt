@@ -1,0 +1,82 @@
+//! The listing of a range of storage: each doubleword as a CCW with its own fault, whether or not a
+//! run comes there. It is for people, and tests hold it.
+
+use crate::evidence::push_evidence;
+use crate::explanation::push_setting;
+use crate::listing::push_words;
+use crate::texts::push_verdict;
+use ccw_core::Area;
+use chan_walk::{Entry, Job, Look, Place, Verdict, look_at, setting_at};
+use ckd_core::Kind;
+use std::alloc::{AllocError, Global};
+
+/// The listing of a range of a job's storage, and the line of the job's verdict: a row for each
+/// doubleword that has a byte in the range, up to the end of storage. Where one chains data, the
+/// next counts as a part of its chain; any other counts as a CCW that begins an operation. The row
+/// of a CCW with a fault of its own is marked, and its cause follows. An error means that an
+/// allocation failed.
+pub fn range_text(
+    alloc: Global,
+    job: &Job,
+    range: Area,
+    verdict: Verdict,
+) -> Result<String, AllocError> {
+    let mut text = String::new(alloc);
+    let end = range.start.saturating_add(range.len).min(job.storage.len());
+    let mut entered = Entry::Fresh;
+    for number in range.start / 8..end.div_ceil(8) {
+        let look = look_at(job, place_at(number.saturating_mul(8), entered));
+        push_look(alloc, &mut text, job, &look)?;
+        entered = entry_behind(&look);
+    }
+    push_verdict(&mut text, verdict)?;
+    text.push('\n')?;
+    Ok(text)
+}
+
+/// The place to which no transfer leads.
+fn place_at(address: u32, entered: Entry) -> Place {
+    Place {
+        address,
+        entered,
+        after_transfer: false,
+    }
+}
+
+/// Adds the row of what stands at a place, with what is set there, and the cause if it is a fault.
+fn push_look(alloc: Global, out: &mut String, job: &Job, look: &Look) -> Result<(), AllocError> {
+    let fault = look.fault();
+    push_words(
+        out,
+        look.place(),
+        look.ccw(),
+        look.command(),
+        fault.is_some(),
+    )?;
+    push_setting(out, setting_at(job, look.place()))?;
+    out.push('\n')?;
+    if let Some(evidence) = fault {
+        out.push_str("because ")?;
+        push_evidence(alloc, out, evidence)?;
+        out.push('\n')?;
+    }
+    Ok(())
+}
+
+/// How the doubleword behind one is entered, if the first one goes on to it.
+fn entry_behind(look: &Look) -> Entry {
+    let chains_data = match look.ccw() {
+        Some(ccw) => ccw.chains_data() && !ccw.is_transfer(),
+        None => false,
+    };
+    match (look.place().entered, look.command()) {
+        _ if !chains_data => Entry::Fresh,
+        (Entry::Fresh, Some(command)) => match command.kind() {
+            Kind::Idle => Entry::Fresh,
+            Kind::Inward => Entry::ChainIn,
+            Kind::Outward => Entry::ChainOut,
+            Kind::Search => Entry::ChainSearch,
+        },
+        (entered, _) => entered,
+    }
+}

@@ -1,0 +1,105 @@
+"""`chanv list --range AREA` has every doubleword of a range with its own fault, by the model.
+
+    tests/run ranges
+
+Over each example deck and over random jobs, the range goes from before the first reachable CCW to
+behind the last one. A doubleword behind one that chains data counts as a part of its chain, any
+other as a CCW that begins an operation, so a program with several mistakes is seen in one round.
+Further rows are about the ends of a range, what isn't one, and several FILEs.
+"""
+
+import sys
+import tempfile
+
+from building import HERE
+from causes import CAUSES, Case
+from examples import EXAMPLES
+from model import Answer, decks_and_jobs
+from rows import usage_fault
+from running import Ran, run, text_of
+
+sys.path.insert(0, str(HERE / "model"))
+
+from channel import ccw_at  # noqa: E402
+from judging import FRESH, Place, kind_at, own_fault  # noqa: E402
+from writing import job_of, row_of, setting_text, verdict_of  # noqa: E402
+
+SEED, JOBS = 83, 400
+MANY = EXAMPLES / "many-faults.deck"
+WAYS_BY_KIND = {"inward": "inward", "outward": "outward", "search": "search"}
+FORM = (
+    "hexadecimal start and length or first and last byte, each at most FFFFFF, as 900+10 or 900-90F"
+)
+
+
+def entered_behind(place, ccw):
+    """How the doubleword behind one is entered, if the first goes on to it."""
+    if ccw is None or ccw.is_transfer() or not ccw.flags & 0x80:
+        return FRESH
+    return WAYS_BY_KIND.get(kind_at(place, ccw), FRESH)
+
+
+def rows_of(job, first, last):
+    entered = FRESH
+    for address in range(first // 8 * 8, min(last + 1, len(job.storage)), 8):
+        place, ccw = Place(address, entered, False), ccw_at(job.storage, address)
+        fault = own_fault(job, place)
+        yield f"{row_of(job, place, fault)} {setting_text(job, place)}".rstrip()
+        if fault:
+            yield f"because {CAUSES[fault](Case(job, {}, place, False, ccw))}"
+        entered = entered_behind(place, ccw)
+
+
+def listed(job, first, last, verdict):
+    return "".join(f"{line}\n" for line in [*rows_of(job, first, last), verdict])
+
+
+def check_jobs(checks, program, room):
+    faults = 0
+    for path, job in decks_and_jobs(room, SEED, JOBS):
+        answer = Answer(job)
+        if answer.is_too_large:
+            continue
+        addresses = [it.address for it in answer.faults if it.address < len(job.storage)]
+        first = max(min(addresses, default=0) - 16, 0)
+        last = min(max(addresses, default=0) + 23, 0xFFFFFF)
+        wanted = listed(job, first, last, answer.verdict)
+        ran = run(program, "list", "--range", f"{first:X}-{last:X}", path)
+        checks.expect(f"list --range over {path.stem}", Ran(int(bool(answer.found)), wanted), ran)
+        faults += wanted.count("because ")
+    checks.expect_that("many faults are listed", faults > JOBS, faults)
+
+
+def check_ends(checks, program):
+    job = job_of(text_of(MANY))
+    verdict = verdict_of(Answer(job).found)
+    size = len(job.storage)
+    for words, first, last in [
+        ("800-800", 0x800, 0x800),
+        ("807+1", 0x807, 0x807),
+        ("0x807+2", 0x807, 0x808),
+        ("800+0", 0x800, 0x7FF),
+        (f"{size - 8:x}-{size + 99:X}", size - 8, size),
+        (f"{size:X}+8", size, size - 1),
+        ("FFFFF8-FFFFFF", size, size - 1),
+    ]:
+        wanted = Ran(1, listed(job, first, last, verdict))
+        checks.expect(f"the range {words}", wanted, run(program, "list", "--range", words, MANY))
+    one = listed(job, 0x800, 0x807, verdict)
+    two = f"{MANY}:\n{one}" * 2
+    ran = run(program, "list", "--range", "800+8", MANY, MANY)
+    checks.expect("a range of two decks", Ran(1, two), ran)
+    ran = run(program, "list", "--range=800+8", given=MANY)
+    checks.expect("a range of standard input", Ran(1, one), ran)
+    fault = usage_fault(f"invalid value '8Z' for '--range <AREA>': {FORM}")
+    checks.expect("no range", fault, run(program, "list", "--range", "8Z", MANY))
+    fault = usage_fault("the argument '--wide' cannot be used with '--range <AREA>'")
+    ran = run(program, "list", "--wide", "--range", "800+8", MANY)
+    checks.expect("a range beside --wide", fault, ran)
+
+
+def check(checks, built):
+    program = built.chanv()
+    with tempfile.TemporaryDirectory() as room:
+        check_jobs(checks, program, room)
+    check_ends(checks, program)
