@@ -32,9 +32,9 @@ DECKS = {
 }
 WIDE = """\
    address   entered  flags   data            command              does
-   000800    fresh    -C---0  000900-000904   search-id-equal      fetches until found
+   000800    fresh    -C---0  000900-000904   search-id-equal      fetches 5 bytes until found (cylinder 10, head 0, record 1)
    000808    fresh    -----0  -> 000800       transfer-in-channel
-   000810    fresh    --L--0  000A00-000A4F   read-data            stores
+   000810    fresh    --L--0  000A00-000A4F   read-data            stores 80 bytes, SLI
 yes
 """
 FOUND = "000800 no 000818 changes-argument 4 CCWs: seek, search-id-equal, read-data\n"

@@ -6,7 +6,7 @@ Of each example and of 500 other jobs: the rows are exactly the places that the 
 from transfers without a fault; each arrow is a successor, through such a transfer or not; each
 successor has its arrow, is the next row of its box, or is a search that a transfer repeats; and the
 pink boxes are exactly the places that offend, with their reasons. An arrow within a box begins and
-ends at its rows, and one that says `stores over` leads from the row that stores to the row of the
+ends at its rows, one that leads back ends at the row that it leads to, and one that says `stores over` leads from the row that stores to the row of the
 CCW or of a CCW that takes the argument. The title has the verdict, the grants and the notes, a row
 says what its CCW does with its data, what it sets and what stores over it, the arrow from `start`
 leads to the first row of a box, the boxes of one address, and no others, are in its frame, and the
@@ -50,7 +50,16 @@ from judging import (  # noqa: E402
     successors,
 )
 from making import changed, random_job  # noqa: E402
-from writing import deck_of, job_of, setting_text, verdict_of  # noqa: E402
+from writing import (  # noqa: E402
+    amount_of,
+    compared_by,
+    deck_of,
+    job_of,
+    known_setting,
+    reported_of,
+    setting_text,
+    verdict_of,
+)
 
 SEED, JOBS = 55, 500
 # a longer listing takes the model long, and above so many boxes arrows have no labels
@@ -65,8 +74,10 @@ LINE = re.compile(r'<tr><td align="left"(?: port="(\w+)")?>([^<]*)</td></tr>')
 FRAME = re.compile(r'  subgraph "cluster_(\w+)" \{.*')
 ARROW = re.compile(r'  "([^"]*)"(?::(\w+):e)? -> "([^"]*)"(?::(\w+):e)?(?: \[(.*)\])?;')
 CHAINED = re.compile(r"chained, (\w+)")
-UNTIL = re.compile(r"until found \(TIC (\w+)\)")
-MOVES = re.compile(r"  (stores |fetches|skips  ) (\w+(?:-\w+)?)")
+UNTIL = re.compile(r"until found \(TIC at (\w+)\)")
+MOVES = re.compile(
+    r"  (stores |fetches|skips  ) (\w+(?:-\w+)?, \d+ bytes?(?: \([^)]*\)+)?(?:, SLI)?(?:, PCI)?)"
+)
 SETTING = re.compile(r"  (\((?:cylinder|mask) [^)]*\))")
 STORED = re.compile(r"  stored over by (\w+)$")
 PINK, YELLOW, ENDLESS = "#FFE9E9", "#FFF6D5", "never ends by itself"
@@ -99,7 +110,7 @@ class Wanted:
             self.reasons[self.row(place)].add(reason)
         self.arrows = {row: self.arrows_of(row) for row in self.rows}
         self.moves = {row: self.move_of(row) for row in self.rows}
-        self.settings = {row: setting_text(job, Place(*row)) or None for row in self.rows}
+        self.settings = {row: self.setting_of(row) for row in self.rows}
         never = () if offences(job, self.faults) else endless(job, self.faults)
         self.endless = {self.row(place) for place in never}
 
@@ -166,7 +177,13 @@ class Wanted:
         else:
             return None
         last = f"-{ccw.address + ccw.count - 1:06X}" if ccw.count > 1 else ""
-        return verb, f"{ccw.address:06X}{last}"
+        amount = f"{amount_of(ccw)}{compared_by(self.job, self.faults, place)}{reported_of(ccw)}"
+        return verb, f"{ccw.address:06X}{last},{amount}"
+
+    def setting_of(self, row):
+        place = next(place for place in self.faults if self.row(place) == row)
+        is_known = known_setting(self.job, self.faults, place) is not None
+        return setting_text(self.job, place) if is_known else None
 
     def stored_over(self, row):
         """For each kind of guarded byte that a row stores over the addresses of which one is that
@@ -248,7 +265,7 @@ class Drawn:
             elif "stores over" in style:
                 self.stores.append((*ends, "dotted" in style))
             else:
-                through = re.search(r"TIC (\w+)", style)
+                through = re.search(r"TIC at (\w+)", style)
                 through = int(through[1], 16) if through else None
                 self.arrows[*ends, through, "dashed" in style] += 1
                 self.found["dashed" in style, '" if found' in style] += 1
@@ -336,17 +353,24 @@ def check_long_box(checks, name, wanted, rows, more):
     checks.expect(f"the row after those left out of {name}", after, rows[half + 1])
 
 
+def shown_of(count, most):
+    """How many of some are shown: one more than most, where a line would say so of one alone."""
+    return most if count > most + 1 else count
+
+
 def check_title(checks, name, deck, job, found, drawn, notes):
-    cylinders = ", ".join(f"{first}-{last}" for first, last in job.extents[:MOST_EXTENTS])
-    more = len(job.extents) - MOST_EXTENTS
+    shown = shown_of(len(job.extents), MOST_EXTENTS)
+    cylinders = ", ".join(f"{first}-{last}" for first, last in job.extents[:shown])
+    more = len(job.extents) - shown
     grants = [
         f"{job.device}",
         f"mask {job.mask:02X}",
         f"cylinders {cylinders}" + (f" and {more} more" if more > 0 else ""),
         f"storage {len(job.storage):07X}",
     ]
-    more = len(notes) - MOST_NOTES
-    notes = [*notes[:MOST_NOTES], *([f"{more} more notes"] if more > 0 else [])]
+    shown = shown_of(len(notes), MOST_NOTES)
+    more = len(notes) - shown
+    notes = [*notes[:shown], *([f"{more} more notes"] if more > 0 else [])]
     title = "\\n".join([f"{deck}: {verdict_of(found)}", ", ".join(grants), *notes])
     checks.expect(f"the title of {name}", title, drawn.title)
 
@@ -411,7 +435,8 @@ def check_arrows(checks, name, wanted, drawn):
                 continue
             for target, through, is_skip in led:
                 through = through if is_labelled else None
-                both = (box, ""), (box_of[target], "")
+                is_back = wanted.order(target) < wanted.order(row)
+                both = (box, ""), (box_of[target], cell_of(target) if is_back else "")
                 if box == box_of[target]:
                     both = (box, cell_of(row)), (box, cell_of(target))
                 arrows[*both, through, is_skip and not until] += 1
@@ -427,14 +452,18 @@ def check_arrows(checks, name, wanted, drawn):
     checks.expect(f"the labels of {name} on what was found", labels, drawn.found)
 
 
+def pair_of(offence):
+    return offence[0].address, offence[1]
+
+
 def check_picture(checks, deck, job, text, notes):
     name, wanted = deck.stem, Wanted(job)
     drawn = Drawn(text, wanted)
     found = offences(job, wanted.faults)
     check_title(checks, name, deck, job, found, drawn, notes)
-    named = found[0][0].address if found else None
-    boxes = {box for box, rows in drawn.boxes.items() if rows[0].address == named}
-    checks.expect(f"the boxes of {name} with the address of its verdict", boxes, drawn.named)
+    named = {wanted.row(it) for it, reason in found if (it.address, reason) == pair_of(found[0])}
+    boxes = {box for box, rows in drawn.boxes.items() if rows[0] in named}
+    checks.expect(f"the boxes of {name} that its verdict names", boxes, drawn.named)
     check_rows(checks, name, wanted, drawn)
     check_frames(checks, name, drawn)
     check_arrows(checks, name, wanted, drawn)
@@ -454,7 +483,7 @@ def check_names(checks, program, room):
 GOES_ON, LAST = "0300000060000001", "0300000020000001"
 # rows are left out of a box of more than 40, and labels of arrows between more than 200 boxes
 LARGE = [
-    *([GOES_ON] * count + [LAST] for count in (39, 40, 59)),
+    *([GOES_ON] * count + [LAST] for count in (39, 40, 41, 59)),
     *(["3100000060000005"] * count + [LAST] * 2 for count in (198, 199, 250)),
 ]
 # a data chain whose second and third CCW also begin operations: two frames side by side

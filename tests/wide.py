@@ -5,7 +5,8 @@
 Of each example deck and of 600 random jobs: after a header there is a row for each CCW and way of
 entry that the model reaches, in the order of `chanv list`, and the verdict's line is last. A row
 has the address, indented if a data chain leads there; the way of entry; the flags; the data as a
-range, or where a transfer leads; the name, `-` where the code doesn't count; and what the CCW does.
+range, or where a transfer leads; the name, `-` where the code doesn't count; and what the CCW does,
+with the number of bytes, what a search compares, SLI and PCI.
 The rows of the places that offend, and no others, are marked `=>` and end with the reasons. Each
 column begins at its heading. Without --wide the listing stays as `decks` and `model` have it.
 """
@@ -32,15 +33,22 @@ from judging import (  # noqa: E402
     command_at,
     does_fetch,
     does_store,
-    setting_of,
     successors,
 )
-from writing import WAY, deck_of  # noqa: E402
+from writing import (  # noqa: E402
+    WAY,
+    amount_of,
+    compared_by,
+    deck_of,
+    known_setting,
+    reported_of,
+)
 
 SEED, JOBS = 67, 600
 # a longer listing takes the model long
 MOST_PLACES = 1000
 HEADER = "   address   entered  flags   data            command              does"
+HEADING = re.compile("   address   entered  flags   data            command {14,}does")
 ROW = re.compile(r"(=>|  ) (  )?(\w{6,}) +(\w+) +(\S+) +(-> \w+|\S+) +(\S+)(?: +(\S.*))?")
 
 
@@ -117,13 +125,16 @@ def is_repeated(job, faults, place):
 
 
 def deed_of(job, faults, place):
-    setting = setting_of(job, place)
+    setting, ccw = known_setting(job, faults, place), ccw_at(job.storage, place.address)
     if setting and "mask" in setting:
         return f"sets mask {setting['mask']:02X}"
     if setting:
         return f"seeks cylinder {setting['cylinder']}, head {setting['head']}"
-    until = "until found" if is_repeated(job, faults, place) else ""
-    return f"{verb_of(place, ccw_at(job.storage, place.address))} {until}".strip()
+    verb = verb_of(place, ccw)
+    if not verb:
+        return ""
+    until = " until found" if is_repeated(job, faults, place) else ""
+    return f"{verb}{amount_of(ccw)}{until}{compared_by(job, faults, place)}{reported_of(ccw)}"
 
 
 def row_of(answer, place):
@@ -157,10 +168,11 @@ def read_back(line):
     return Row(mark == "=>", bool(indent), address, entered, flags, data, name, does)
 
 
-def are_in_columns(row, line):
-    """Whether what a row says begins under the headings, if nothing before it is too long."""
-    began = [HEADER.index(f" {word}") + 1 for word in ("entered", "flags", "data", "command")]
-    said = [row.entered, row.flags, row.data, row.name]
+def are_in_columns(row, line, header):
+    """Whether what a row says begins under the headings."""
+    headings = ("entered", "flags", "data", "command", "does")
+    began = [header.index(f" {word}") + 1 for word in headings]
+    said = [row.entered, row.flags, row.data, row.name, row.does]
     return all(line[at:].startswith(word) for at, word in zip(began, said))
 
 
@@ -172,17 +184,20 @@ def check_listing(checks, program, path, job, seen):
     header, *lines, verdict = ran.output.splitlines()
     ended = Ran(1 if answer.found else 0, ran.output, "")
     checks.expect(f"the status of {name}", ended, ran)
-    checks.expect(f"the header of {name}", HEADER, header)
+    checks.expect_that(f"the header of {name}", HEADING.fullmatch(header), header)
     checks.expect(f"the last line of {name}", answer.verdict, verdict)
     wanted = [row_of(answer, place) for place in rows_of(job, answer.faults)]
     rows = [read_back(line) for line in lines]
     checks.expect(f"how many rows {name} has", len(wanted), len(rows))
     for row, found, line in zip(wanted, rows, lines):
         checks.expect(f"the row {row.address} {row.entered} of {name}", row, found)
-        is_so = are_in_columns(row, line) and line == line.rstrip()
+        is_so = are_in_columns(row, line, header) and line == line.rstrip()
         checks.expect_that(f"the columns of {row.address} of {name}", is_so, line)
         seen["transfer"] += row.data.startswith("-> ")
-        seen["loop"] += row.does.startswith("fetches until found")
+        seen["loop"] += " until found" in row.does
+        seen["record"] += ", record " in row.does
+        seen["key"] += "(key " in row.does
+        seen["SLI and PCI"] += ", SLI, PCI" in row.does
         seen["seek"] += "seeks cylinder" in row.does
         seen["mask"] += "sets mask" in row.does
         seen["skips"] += "skips" in row.does
@@ -203,13 +218,13 @@ TWO_WAYS = [
 ]
 TWO_WAYS_LISTED = f"""\
 {HEADER}
-   000800    fresh    D----0  008000-00800F   read-data            stores
-   000808    fresh    -CL--0  008100-00810F   read-data            stores
-     000808  in       -CL--0  008100-00810F   -                    stores
-=>   000808  out      -CL--0  008100-00810F   -                    fetches: fetch-not-lent
-   000810    fresh    -C---0  004000-004004   search-id-equal      fetches
+   000800    fresh    D----0  008000-00800F   read-data            stores 16 bytes
+   000808    fresh    -CL--0  008100-00810F   read-data            stores 16 bytes, SLI
+     000808  in       -CL--0  008100-00810F   -                    stores 16 bytes, SLI
+=>   000808  out      -CL--0  008100-00810F   -                    fetches 16 bytes, SLI: fetch-not-lent
+   000810    fresh    -C---0  004000-004004   search-id-equal      fetches 5 bytes (cylinder 0, head 0, record 0)
    000818    fresh    -----0  -> 000808       transfer-in-channel
-   000820    fresh    D----0  004100-00410F   write-data           fetches
+   000820    fresh    D----0  004100-00410F   write-data           fetches 16 bytes
      000828  out      -----0  -> 000808       transfer-in-channel
 no 000808 fetch-not-lent
 """
@@ -245,4 +260,4 @@ def check(checks, built):
         for path, job in decks_and_jobs(room, SEED, JOBS):
             check_listing(checks, program, path, job, seen)
         check_ways(checks, program, Path(room))
-    checks.expect_that("each kind of row comes", len(seen) == 8 and all(seen.values()), seen)
+    checks.expect_that("each kind of row comes", len(seen) == 11 and all(seen.values()), seen)

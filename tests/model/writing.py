@@ -120,33 +120,95 @@ def path_of(job, faults, found):
         yield f"stored over by {over.address:06X}: what will stand there is not judged"
 
 
-WIDE = "   address   entered  flags   data            command              does"
+# a part of EBCDIC, by Python's code page 037
+SHOWN_IN_KEYS = (
+    " .(+$*)-/,%_:#@=0123456789ABCDEFGHIJKLMNOPQRSTUVWXYZabcdefghijklmnopqrstuvwxyz".encode("cp037")
+)
+MOST_OF_KEY = 16
 
 
-def deed_of(job, place, ccw):
+def are_stored(job, faults, addresses):
+    """Whether a reachable CCW stores into some bytes."""
+    for place in faults:
+        ccw = ccw_at(job.storage, place.address)
+        if ccw and does_store(place, ccw):
+            data = range(ccw.address, ccw.address + ccw.count)
+            if any(address in data for address in addresses):
+                return True
+    return False
+
+
+def known_setting(job, faults, place):
+    """What the operation at a place sets, if no reachable CCW stores over what it takes that from."""
+    ccw = ccw_at(job.storage, place.address)
+    data = range(ccw.address, ccw.address + ccw.count) if ccw else ()
+    taken = guarded(job, {place: faults[place]})[1] if ccw else ()
+    return None if are_stored(job, faults, {*data, *taken}) else setting_of(job, place)
+
+
+def compared_by(job, faults, place):
+    """The track, the record or the key that a search compares, if its CCW has all of it."""
+    ccw = ccw_at(job.storage, place.address)
+    command = COMMANDS.get(ccw.code) if place.entered == FRESH else None
+    data = range(ccw.address, ccw.address + ccw.count)
+    is_search = command and command.kind == "search" and not ccw.is_transfer()
+    if not is_search or ccw.flags & 0x80 or are_stored(job, faults, data):
+        return ""
+    # past storage there are zeros
+    value = bytes(job.storage[at] if at < len(job.storage) else 0 for at in data)
+    if "-key-" in command.name:
+        key, more = value[:MOST_OF_KEY], ".." * (len(value) > MOST_OF_KEY)
+        is_text = all(byte in SHOWN_IN_KEYS for byte in key)
+        return f" (key '{key.decode('cp037')}{more}')" if is_text else f" (key {key.hex().upper()}{more})"
+    if len(value) != (5 if "-id-" in command.name else 4):
+        return ""
+    cylinder, head = int.from_bytes(value[:2]), int.from_bytes(value[2:4])
+    record = f", record {value[4]}" if len(value) == 5 else ""
+    return f" (cylinder {cylinder}, head {head}{record})"
+
+
+def amount_of(ccw):
+    return f" {ccw.count} byte{'s' * (ccw.count != 1)}"
+
+
+def reported_of(ccw):
+    return ", SLI" * bool(ccw.flags & 0x20) + ", PCI" * bool(ccw.flags & 0x08)
+
+
+def deed_of(job, faults, place, ccw):
     """What the CCW at a place does: what it sets, or what it does with its data."""
-    setting = setting_of(job, place) or {}
+    setting = known_setting(job, faults, place) or {}
     if "mask" in setting:
         return f"sets mask {setting['mask']:02X}"
     if setting:
         return f"seeks cylinder {setting['cylinder']}, head {setting['head']}"
     if ccw.is_transfer() or ccw.count == 0:
         return ""
+    behind = compared_by(job, faults, place) + reported_of(ccw)
     if does_store(place, ccw):
-        return "stores"
+        return f"stores{amount_of(ccw)}{behind}"
     if not does_fetch(place, ccw):
-        return "skips" if kind_at(place, ccw) == "inward" else ""
+        return f"skips{amount_of(ccw)}{behind}" if kind_at(place, ccw) == "inward" else ""
     after = [] if own_fault(job, place) else successors(place, ccw)
     is_search = place.entered == FRESH and len(after) == 2
     back = ccw_at(job.storage, after[0].address) if is_search else None
     is_loop = back and back.is_transfer() and back.address == place.address
-    return "fetches until found" if is_loop else "fetches"
+    return f"fetches{amount_of(ccw)}{' until found' * bool(is_loop)}{behind}"
 
 
 def wide_of(job, faults, found):
     """The wide listing: places that differ in whether a transfer led there are one row, but for
     transfers."""
-    yield WIDE
+    rows = [*wide_rows(job, faults, found)]
+    width = max([20, *(len(name) for _, name, _ in rows)])
+    yield f"   address   entered  flags   data            {'command':{width}} does"
+    for front, name, does in rows:
+        yield f"{front} {name:{width}} {does}".rstrip()
+    yield verdict_of(found)
+
+
+def wide_rows(job, faults, found):
+    """The front of each row, the name, and what the CCW does."""
     before = None
     for place in sorted(faults, key=lambda place: place.order()):
         ccw = ccw_at(job.storage, place.address)
@@ -155,7 +217,7 @@ def wide_of(job, faults, found):
         if is_twin:
             continue
         reasons = ", ".join(reason for at, reason in found if at == place)
-        does = deed_of(job, place, ccw) if ccw else ""
+        does = deed_of(job, faults, place, ccw) if ccw else ""
         does = ": ".join(filter(None, [does, reasons]))
         flags, data, name = "-", "-", "no-ccw"
         if ccw:
@@ -165,9 +227,7 @@ def wide_of(job, faults, found):
         indent = "" if place.entered == FRESH else "  "
         address, way = f"{indent}{place.address:06X}", WAY[place.entered]
         mark = "=>" if reasons else "  "
-        row = f"{mark} {address:9} {way:8} {flags:7} {data:15} {name:20} {does}"
-        yield row.rstrip()
-    yield verdict_of(found)
+        yield f"{mark} {address:9} {way:8} {flags:7} {data:15}", name, does
 
 
 def second_path_of(job, faults, found):

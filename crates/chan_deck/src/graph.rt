@@ -5,17 +5,17 @@ ghost use Rattle.std.specs.Prelude.{◌≡◌, ◌++◌, codes, option_map, stri
 ghost use Rattle.chan_deck.specs.Graph.{IsPictureOf, escaped, escaped_byte, titled};
 ghost use Rattle.chan_deck.specs.VerdictLine.{verdict_words};
 
+use crate::deed::{Shown, push_amount, push_reported};
 use crate::evidence::push_evidence;
 use crate::explanation::push_setting;
 use crate::layout::{
     Arrow, Layout, MOST_ROWS, Row, Scene, arrow_to, first_offence, first_row, is_left_out_of,
-    layout_of, row_at,
+    layout_of, row_at, shown_of,
 };
 use crate::listing::{name_of, transfer_word, way_word};
 use crate::texts::{Address, Digits, Range, Size, push_verdict};
 use chan_walk::{
     Direction, Entry, Evidence, Job, Look, Offence, Place, Verdict, data_of, first_place,
-    setting_at,
 };
 use chan_why::can_end;
 use ckd_core::{Device, Kind};
@@ -33,7 +33,7 @@ const MOST_NOTES: usize = 8;
 
 const STYLES: &str = "  node [shape=plain, fontname=\"monospace\", fontsize=10];
   edge [arrowsize=0.7, fontname=\"sans-serif\", fontsize=9];
-  start [shape=plaintext, fontname=\"sans-serif\", margin=0.03];
+  { rank=source; start [shape=plaintext, fontname=\"sans-serif\", margin=0.03]; }
 ";
 
 /// A program that was judged, as it is drawn.
@@ -161,29 +161,40 @@ fn push_name(out: &mut String, name: &[u8]) -> Result<(), AllocError>
 /// Adds the cylinders granted.
 fn push_cylinders(out: &mut String, extents: &[(u16, u16)]) -> Result<(), AllocError> {
     out.push_str(", cylinders")?;
-    for (k, (first, last)) in extents.iter().take(MOST_EXTENTS).enumerate() {
+    let shown = shown_of(extents.len(), MOST_EXTENTS);
+    for (k, (first, last)) in extents.iter().take(shown).enumerate() {
         let comma = if k == 0 { "" } else { "," };
         write!(out, "{comma} {first}-{last}")?;
     }
-    let more = extents.len().saturating_sub(MOST_EXTENTS);
+    let more = extents.len().saturating_sub(shown);
     if more > 0 {
         write!(out, " and {more} more")?;
     }
     Ok(())
 }
 
-/// Adds the notes, of many only the first.
-fn push_notes(out: &mut String, notes: &str) -> Result<(), AllocError> {
+/// How many notes there are.
+fn count_notes(notes: &str) -> usize {
     let mut count: usize = 0;
     for line in notes.lines() {
         if line.starts_with("note: ") {
-            if count < MOST_NOTES {
-                write!(out, "\\n{line}")?;
-            }
             count = count.saturating_add(1);
         }
     }
-    let more = count.saturating_sub(MOST_NOTES);
+    count
+}
+
+/// Adds the notes, of many only the first.
+fn push_notes(out: &mut String, notes: &str) -> Result<(), AllocError> {
+    let count = count_notes(notes);
+    let mut left = shown_of(count, MOST_NOTES);
+    let more = count.saturating_sub(left);
+    for line in notes.lines() {
+        if line.starts_with("note: ") && left > 0 {
+            write!(out, "\\n{line}")?;
+            left = left.saturating_sub(1);
+        }
+    }
     if more > 0 {
         write!(out, "\\n{more} more notes")?;
     }
@@ -210,7 +221,7 @@ fn push_grants(out: &mut String, picture: &Picture) -> Result<(), AllocError> {
     write!(
         out,
         "\", labelloc=t, fontname=\"sans-serif\", fontsize=12,\n    \
-         fontcolor=\"{color}\", ranksep=0.45, nodesep=0.4];\n"
+         fontcolor=\"{color}\", ranksep=0.45, nodesep=0.4, newrank=true];\n"
     )
 }
 
@@ -229,10 +240,10 @@ pub(crate) fn name_at(look: &Look) -> (&'static str, &'static str) {
 }
 
 /// The name of what stands at a place, with what is set there.
-fn name_text(alloc: Global, job: &Job, look: &Look) -> Result<String, AllocError> {
+fn name_text(alloc: Global, shown: &Shown, look: &Look) -> Result<String, AllocError> {
     let (name, way) = name_at(look);
     let mut text = format!(in alloc; "{name}{way}")?;
-    let setting = setting_at(job, look.place());
+    let setting = shown.setting_of(look);
     if setting.is_some() {
         text.push(' ')?;
     }
@@ -260,23 +271,31 @@ pub(crate) fn verb_at(look: &Look) -> Option<&'static str> {
 }
 
 /// A row as the picture has it; `width` is that of the longest name in its box.
-fn drawn_row(alloc: Global, job: &Job, row: &Row, width: usize) -> Result<String, AllocError> {
+fn drawn_row(alloc: Global, shown: &Shown, row: &Row, width: usize) -> Result<String, AllocError> {
     let address = Address(row.look.place().address);
-    let name = name_text(alloc, job, row.look)?;
+    let name = name_text(alloc, shown, row.look)?;
     let mut text = format!(in alloc; "{address}  {name}")?;
-    push_data(&mut text, row.look, width.saturating_sub(name.len()))?;
+    push_data(&mut text, shown, row.look, width.saturating_sub(name.len()))?;
     push_until_and_stored(&mut text, row)?;
     Ok(text)
 }
 
 /// Adds what a row does with which bytes of data, after so many blanks, if it moves data.
-fn push_data(out: &mut String, look: &Look, blanks: usize) -> Result<(), AllocError> {
+fn push_data(
+    out: &mut String,
+    shown: &Shown,
+    look: &Look,
+    blanks: usize,
+) -> Result<(), AllocError> {
     if let (Some(verb), Some(ccw)) = (verb_at(look), look.ccw()) {
         for _ in 0..blanks {
             out.push(' ')?;
         }
         let range = Range(data_of(&ccw));
-        write!(out, "  {verb:<7} {range}")?;
+        write!(out, "  {verb:<7} {range},")?;
+        push_amount(out, ccw)?;
+        shown.push_compared(out, look)?;
+        push_reported(out, ccw)?;
     }
     Ok(())
 }
@@ -285,7 +304,7 @@ fn push_data(out: &mut String, look: &Look, blanks: usize) -> Result<(), AllocEr
 fn push_until_and_stored(out: &mut String, row: &Row) -> Result<(), AllocError> {
     if let Some(transfer) = row.until {
         let transfer = Address(transfer);
-        write!(out, "  until found (TIC {transfer})")?;
+        write!(out, "  until found (TIC at {transfer})")?;
     }
     if let Some(address) = row.stored_by {
         let address = Address(address);
@@ -321,14 +340,14 @@ fn push_line(out: &mut String, cell: Option<Cell>, text: &str) -> Result<(), All
 fn push_rows(
     alloc: Global,
     out: &mut String,
-    job: &Job,
+    shown: &Shown,
     scene: Scene<'_>,
     rows: &[usize],
 ) -> Result<(), AllocError> {
     let mut width = 0;
     for at in rows {
         if let Some(look) = scene.looks.get(*at) {
-            width = width.max(name_text(alloc, job, look)?.len());
+            width = width.max(name_text(alloc, shown, look)?.len());
         }
     }
     for (k, at) in rows.iter().enumerate() {
@@ -340,7 +359,7 @@ fn push_rows(
             }
         } else if let Some(row) = row_at(scene, *at) {
             let cell = Cell::Row(row.look.place().address);
-            let text = drawn_row(alloc, job, &row, width)?;
+            let text = drawn_row(alloc, shown, &row, width)?;
             push_line(out, Some(cell), text.as_str())?;
         }
     }
@@ -399,12 +418,17 @@ fn offences_at(
     Ok(found)
 }
 
-/// Whether a place has the address that the verdict names.
-fn is_named(verdict: Verdict, place: Place) -> bool {
-    match verdict {
-        Verdict::No { address, .. } => address == place.address,
-        Verdict::Yes => false,
+/// Whether the verdict names one of the offences of a place.
+fn is_named(verdict: Verdict, offences: &[(Offence, Evidence)]) -> bool {
+    let Verdict::No { address, reason } = verdict else {
+        return false;
+    };
+    for (offence, _) in offences {
+        if offence.place.address == address && offence.reason == reason {
+            return true;
+        }
     }
+    false
 }
 
 /// Adds the box of some rows, of which this place is the first: a pink one if it offends, and then
@@ -412,19 +436,19 @@ fn is_named(verdict: Verdict, place: Place) -> bool {
 fn push_box(
     alloc: Global,
     out: &mut String,
-    picture: &Picture,
+    (picture, shown): (&Picture, &Shown),
     scene: Scene<'_>,
     place: Place,
     rows: &[usize],
     is_endless: bool,
 ) -> Result<(), AllocError> {
     let name = Node(place);
-    let width = if is_named(picture.verdict, place) {
+    let offences = offences_at(alloc, picture, place)?;
+    let width = if is_named(picture.verdict, &offences) {
         2
     } else {
         1
     };
-    let offences = offences_at(alloc, picture, place)?;
     let colors = if !offences.is_empty() {
         " color=\"#B00000\" bgcolor=\"#FFE9E9\""
     } else if is_endless {
@@ -437,7 +461,7 @@ fn push_box(
         "  \"{name}\" [label=<<table border=\"{width}\" cellborder=\"0\" cellspacing=\"0\" \
          cellpadding=\"1\"{colors}>"
     )?;
-    push_rows(alloc, out, picture.job, scene, rows)?;
+    push_rows(alloc, out, shown, scene, rows)?;
     if is_endless {
         push_line(out, None, "never ends by itself")?;
     }
@@ -451,7 +475,7 @@ fn push_box(
 fn push_boxes(
     alloc: Global,
     out: &mut String,
-    picture: &Picture,
+    (picture, shown): (&Picture, &Shown),
     scene: Scene<'_>,
     layout: &Layout,
     ends: &[bool],
@@ -477,7 +501,15 @@ fn push_boxes(
         }
         let rows = layout.rows(alloc, at)?;
         let is_endless = ends.get(at).copied() == Some(false);
-        push_box(alloc, out, picture, scene, place, &rows, is_endless)?;
+        push_box(
+            alloc,
+            out,
+            (picture, shown),
+            scene,
+            place,
+            &rows,
+            is_endless,
+        )?;
     }
     if frame.is_some() {
         out.push_str("  }\n")?;
@@ -507,22 +539,22 @@ fn row_of(looks: &[Look], layout: &Layout, at: usize) -> Option<End> {
 }
 
 /// Where an arrow from one row to another begins and ends: in one box at the rows, and else at the
-/// boxes, since it leads from the last row to the first.
+/// boxes, since it leads from the last row to the first. One that leads back ends at that row, which
+/// is far from where the arrow comes to the box.
 fn ends_of(looks: &[Look], layout: &Layout, from: usize, to: usize) -> Option<(End, End)> {
     let (from, to) = if layout.head(from) == layout.head(to) {
         (row_of(looks, layout, from)?, row_of(looks, layout, to)?)
     } else {
-        let (from, to) = (node_of(looks, layout, from)?, node_of(looks, layout, to)?);
-        (
-            End {
-                node: from,
-                cell: None,
-            },
-            End {
-                node: to,
-                cell: None,
-            },
-        )
+        let begin = End {
+            node: node_of(looks, layout, from)?,
+            cell: None,
+        };
+        let end = row_of(looks, layout, to)?;
+        if to < from {
+            (begin, end)
+        } else {
+            (begin, End { cell: None, ..end })
+        }
     };
     Some((from, to))
 }
@@ -564,7 +596,7 @@ fn push_arrow(
             let comma = if is_found { ", " } else { "" };
             write!(
                 out,
-                " [{style}{comma}label=\" {found}{comma}TIC {transfer} \"];\n"
+                " [{style}{comma}label=\" {found}{comma}TIC at {transfer} \"];\n"
             )
         }
         _ if is_found => write!(out, " [{style}, label=\" {found} \"];\n"),
@@ -715,6 +747,7 @@ fn stores_over(alloc: Global, picture: &Picture) -> Result<Vec<Option<u32>>, All
 /// All that stands between the verdict in the title and the last line.
 fn body_of(alloc: Global, picture: &Picture) -> Result<String, AllocError> {
     let first = first_place(picture.job);
+    let shown = Shown::new(alloc, picture.job, picture.looks)?;
     let stored_by = stores_over(alloc, picture)?;
     let scene = Scene {
         looks: picture.looks,
@@ -728,7 +761,7 @@ fn body_of(alloc: Global, picture: &Picture) -> Result<String, AllocError> {
     let mut out = String::new(alloc);
     push_grants(&mut out, picture)?;
     out.push_str(STYLES)?;
-    push_boxes(alloc, &mut out, picture, scene, &layout, &ends)?;
+    push_boxes(alloc, &mut out, (picture, &shown), scene, &layout, &ends)?;
     push_start(&mut out, scene, &layout, first)?;
     push_arrows(alloc, &mut out, picture, scene, &layout)?;
     Ok(out)

@@ -4,13 +4,23 @@
 use chan_walk::{Look, Offence, Place};
 use std::alloc::{AllocError, Global};
 
-/// Of a box with more rows than these only the first and the last half of so many are drawn.
+/// Of a box with many more rows than these only the first and the last half of so many are drawn.
 pub(crate) const MOST_ROWS: usize = 40;
+
+/// How many of some are shown, if most are as many as this: all, if what says how many are left out
+/// would take the room of the only one.
+pub(crate) fn shown_of(count: usize, most: usize) -> usize {
+    if count > most.saturating_add(1) {
+        most
+    } else {
+        count
+    }
+}
 
 /// Whether a row, numbered from zero, is left out of a box with so many.
 pub(crate) fn is_left_out_of(length: usize, number: usize) -> bool {
     let first = MOST_ROWS / 2;
-    length > MOST_ROWS && first <= number && number < length.saturating_sub(first)
+    shown_of(length, MOST_ROWS) < length && first <= number && number < length.saturating_sub(first)
 }
 
 /// The looks at the places of a program, in order, and for each the address of the CCW that is said

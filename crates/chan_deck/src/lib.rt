@@ -15,6 +15,7 @@
 mod beginning;
 mod cause;
 mod deck;
+mod deed;
 mod digits;
 mod error;
 mod evidence;

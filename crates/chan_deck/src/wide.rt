@@ -4,17 +4,26 @@
 ghost use Rattle.std.specs.Prelude.{IfOk, string_bytes};
 ghost use Rattle.chan_deck.specs.Listing.{IsWideListing};
 
+use crate::deed::{Shown, push_amount, push_reported};
 use crate::graph::{name_at, verb_at};
 use crate::layout::{Scene, first_offence, first_twin, row_at};
 use crate::listing::way_word;
 use crate::texts::{Digits, push_address, push_range, push_verdict};
 use ccw_core::Ccw;
-use chan_walk::{Entry, Job, Look, Offence, Place, Setting, Verdict, data_of, setting_at};
+use chan_walk::{Entry, Job, Look, Offence, Place, Setting, Verdict, data_of};
 use ckd_core::Track;
 use std::alloc::{AllocError, Global};
 use std::fmt::Write as _;
 
-const HEADER: &str = "   address   entered  flags   data            command              does\n";
+// The header, up to the column of names, and what stands over it and over the last column.
+const HEADER: &str = "   address   entered  flags   data            ";
+
+const COMMAND: &str = "command";
+
+const DOES: &str = "does\n";
+
+/// The least width of the column of names.
+const NAME_WIDTH: usize = 20;
 
 /// Fills a column that began at this length of the text with blanks, up to its width, and adds the
 /// blank after it.
@@ -59,11 +68,11 @@ fn push_columns(alloc: Global, out: &mut String, ccw: Option<Ccw>) -> Result<(),
 }
 
 /// Adds what the CCW of a look does: what it sets, or what it does with its data.
-fn push_deed(out: &mut String, job: &Job, looks: &[Look], at: usize) -> Result<(), AllocError> {
+fn push_deed(out: &mut String, shown: &Shown, looks: &[Look], at: usize) -> Result<(), AllocError> {
     let Some(look) = looks.get(at) else {
         return Ok(());
     };
-    match setting_at(job, look.place()) {
+    match shown.setting_of(look) {
         Some(Setting::Arm(Track { cylinder, head })) => {
             return write!(out, "seeks cylinder {cylinder}, head {head}");
         }
@@ -71,12 +80,24 @@ fn push_deed(out: &mut String, job: &Job, looks: &[Look], at: usize) -> Result<(
             let byte = Digits(byte);
             return write!(out, "sets mask {byte}");
         }
-        None => out.push_str(verb_at(look).unwrap_or(""))?,
+        None => (),
     }
+    if let (Some(verb), Some(ccw)) = (verb_at(look), look.ccw()) {
+        out.push_str(verb)?;
+        push_amount(out, ccw)?;
+        out.push_str(until_found(looks, at))?;
+        shown.push_compared(out, look)?;
+        push_reported(out, ccw)?;
+    }
+    Ok(())
+}
+
+/// What is said of a search that a transfer repeats.
+fn until_found(looks: &[Look], at: usize) -> &'static str {
     let stored_by = &[];
     match row_at(Scene { looks, stored_by }, at) {
-        Some(row) if row.until.is_some() => out.push_str(" until found"),
-        _ => Ok(()),
+        Some(row) if row.until.is_some() => " until found",
+        _ => "",
     }
 }
 
@@ -102,14 +123,14 @@ fn reasons_of(alloc: Global, offences: &[Offence], place: Place) -> Result<Strin
 /// something to say.
 fn push_name_and_deed(
     out: &mut String,
-    name: &str,
+    (name, width): (&str, usize),
     deed: &str,
     reasons: &str,
 ) -> Result<(), AllocError> {
     let begun = out.len();
     out.push_str(name)?;
     if !deed.is_empty() || !reasons.is_empty() {
-        end_column(out, begun, 20)?;
+        end_column(out, begun, width)?;
     }
     out.push_str(deed)?;
     if !deed.is_empty() && !reasons.is_empty() {
@@ -123,10 +144,11 @@ fn push_name_and_deed(
 fn push_row(
     alloc: Global,
     out: &mut String,
-    job: &Job,
+    shown: &Shown,
     looks: &[Look],
     offences: &[Offence],
     at: usize,
+    width: usize,
 ) -> Result<(), AllocError> {
     let Some(look) = looks.get(at) else {
         return Ok(());
@@ -136,10 +158,28 @@ fn push_row(
     push_entry(out, look.place())?;
     push_columns(alloc, out, look.ccw())?;
     let mut deed = String::new(alloc);
-    push_deed(&mut deed, job, looks, at)?;
+    push_deed(&mut deed, shown, looks, at)?;
+    push_name_and_deed(
+        out,
+        (shown_name(look), width),
+        deed.as_str(),
+        reasons.as_str(),
+    )
+}
+
+/// The name of what stands at a place, if its code counts.
+fn shown_name(look: &Look) -> &'static str {
     let (name, chain) = name_at(look);
-    let name = if chain.is_empty() { name } else { "-" };
-    push_name_and_deed(out, name, deed.as_str(), reasons.as_str())
+    if chain.is_empty() { name } else { "-" }
+}
+
+/// The width of the column of names.
+fn name_width(looks: &[Look]) -> usize {
+    let mut width = NAME_WIDTH;
+    for look in looks {
+        width = width.max(shown_name(look).len());
+    }
+    width
 }
 
 /// The wide listing of a job that was judged: a header, a row for each CCW and way of entry in
@@ -157,10 +197,16 @@ pub fn wide_listing(
 ) -> Result<String, AllocError>
     ensures { IfOk result (λ text. IsWideListing verdict (string_bytes text)) }
 {
+    let shown = Shown::new(alloc, job, looks)?;
+    let width = name_width(looks);
     let mut text = String::from_str(alloc, HEADER)?;
+    let begun = text.len();
+    text.push_str(COMMAND)?;
+    end_column(&mut text, begun, width)?;
+    text.push_str(DOES)?;
     for at in 0..looks.len() {
         if first_twin(looks, at) == at {
-            push_row(alloc, &mut text, job, looks, offences, at)?;
+            push_row(alloc, &mut text, &shown, looks, offences, at, width)?;
         }
     }
     push_verdict(&mut text, verdict)?;

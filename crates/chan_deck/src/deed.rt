@@ -1,0 +1,180 @@
+//! What a CCW does, in words for the wide listing and the picture. Tests hold it.
+
+use bitflags::Flags;
+use ccw_core::{Area, Ccw, CcwFlags, Storage};
+use chan_areas::Merged;
+use chan_walk::{Direction, Job, Look, Setting, data_moved, data_of, setting_at};
+use ckd_core::{Kind, Track};
+use std::alloc::{AllocError, Global};
+use std::fmt::Write as _;
+
+/// The most bytes of a key that are shown.
+const MOST_OF_KEY: u32 = 16;
+
+/// The characters of EBCDIC that a key is shown in, each with its code.
+const CHARACTERS: &[(u8, u8)] = &[
+    (0x40, b' '),
+    (0x4B, b'.'),
+    (0x4D, b'('),
+    (0x4E, b'+'),
+    (0x5B, b'$'),
+    (0x5C, b'*'),
+    (0x5D, b')'),
+    (0x60, b'-'),
+    (0x61, b'/'),
+    (0x6B, b','),
+    (0x6C, b'%'),
+    (0x6D, b'_'),
+    (0x7A, b':'),
+    (0x7B, b'#'),
+    (0x7C, b'@'),
+    (0x7E, b'='),
+];
+
+/// The first code of each run of letters or digits in EBCDIC, the last, and the first character.
+const RUNS: &[(u8, u8, u8)] = &[
+    (0x81, 0x89, b'a'),
+    (0x91, 0x99, b'j'),
+    (0xA2, 0xA9, b's'),
+    (0xC1, 0xC9, b'A'),
+    (0xD1, 0xD9, b'J'),
+    (0xE2, 0xE9, b'S'),
+    (0xF0, 0xF9, b'0'),
+];
+
+/// A job as its program is shown.
+#[derive(Drop)]
+pub(crate) struct Shown<'a> {
+    pub(crate) job: &'a Job<'a>,
+    /// The bytes into which some reachable CCW stores, so that their values on a run aren't known.
+    stored: Merged,
+}
+
+impl<'a> Shown<'a> {
+    /// A job with these reachable places.
+    pub(crate) fn new(
+        alloc: Global,
+        job: &'a Job<'a>,
+        looks: &[Look],
+    ) -> Result<Shown<'a>, AllocError> {
+        let stored = data_moved(alloc, looks, Direction::Store)?;
+        Ok(Shown { job, stored })
+    }
+
+    /// What the operation that begins at a place sets, if no reachable CCW stores over its argument.
+    pub(crate) fn setting_of(&self, look: &Look) -> Option<Setting> {
+        let data = data_of(&look.ccw()?);
+        if self.stored.meets(data.start, data.len) {
+            return None;
+        }
+        for address in look.argument() {
+            if self.stored.meets(*address, 1) {
+                return None;
+            }
+        }
+        setting_at(self.job, look.place())
+    }
+
+    /// Adds what the search that begins at a place compares, in parentheses, if it is all in the
+    /// data of its CCW and no reachable CCW stores over that.
+    pub(crate) fn push_compared(&self, out: &mut String, look: &Look) -> Result<(), AllocError> {
+        let (Some(ccw), Some(command)) = (look.ccw(), look.command()) else {
+            return Ok(());
+        };
+        let data = data_of(&ccw);
+        if command.kind() != Kind::Search
+            || ccw.chains_data()
+            || self.stored.meets(data.start, data.len)
+        {
+            return Ok(());
+        }
+        let storage = &self.job.storage;
+        if command.name().starts_with("search-key") {
+            return push_key(out, storage, data);
+        }
+        let len = if command.name().starts_with("search-id") {
+            5
+        } else {
+            4
+        };
+        if data.len == len {
+            return push_record(out, storage, data);
+        }
+        Ok(())
+    }
+}
+
+/// Adds a track in parentheses, and the number of a record if the data has one.
+fn push_record(out: &mut String, storage: &Storage, data: Area) -> Result<(), AllocError> {
+    let byte = |number: u32| storage.byte_at(data.start.saturating_add(number));
+    let cylinder = u16::from_be_bytes([byte(0), byte(1)]);
+    let head = u16::from_be_bytes([byte(2), byte(3)]);
+    write!(out, " (cylinder {cylinder}, head {head}")?;
+    if data.len > 4 {
+        let record = byte(4);
+        write!(out, ", record {record}")?;
+    }
+    out.push(')')
+}
+
+/// Adds a key in parentheses: as text if each byte is a character of EBCDIC, and else in digits. Of
+/// a longer key only the first bytes are shown.
+fn push_key(out: &mut String, storage: &Storage, data: Area) -> Result<(), AllocError> {
+    let len = data.len.min(MOST_OF_KEY);
+    let is_text = is_text(storage, data.start, len);
+    out.push_str(if is_text { " (key '" } else { " (key " })?;
+    for number in 0..len {
+        let byte = storage.byte_at(data.start.saturating_add(number));
+        match character_of(byte) {
+            Some(character) if is_text => out.push(char::from(character))?,
+            _ => write!(out, "{byte:02X}")?,
+        }
+    }
+    if data.len > len {
+        out.push_str("..")?;
+    }
+    out.push_str(if is_text { "')" } else { ")" })
+}
+
+/// Whether each of some bytes is a character of EBCDIC.
+fn is_text(storage: &Storage, start: u32, len: u32) -> bool {
+    for number in 0..len {
+        if character_of(storage.byte_at(start.saturating_add(number))).is_none() {
+            return false;
+        }
+    }
+    true
+}
+
+/// The character of a code of EBCDIC, in ASCII.
+fn character_of(code: u8) -> Option<u8> {
+    for (first, last, character) in RUNS {
+        if *first <= code && code <= *last {
+            return Some(character.saturating_add(code.saturating_sub(*first)));
+        }
+    }
+    for (known, character) in CHARACTERS {
+        if *known == code {
+            return Some(*character);
+        }
+    }
+    None
+}
+
+/// Adds how many bytes a CCW's data has.
+pub(crate) fn push_amount(out: &mut String, ccw: Ccw) -> Result<(), AllocError> {
+    let count = ccw.count();
+    let bytes = if count == 1 { "byte" } else { "bytes" };
+    write!(out, " {count} {bytes}")
+}
+
+/// Adds the flags of a CCW that change what is reported of it: SLI and PCI.
+pub(crate) fn push_reported(out: &mut String, ccw: Ccw) -> Result<(), AllocError> {
+    if ccw.flags() & CcwFlags::SLI.bits() != 0 {
+        out.push_str(", SLI")?;
+    }
+    if ccw.flags() & CcwFlags::PCI.bits() != 0 {
+        out.push_str(", PCI")?;
+    }
+    Ok(())
+}
