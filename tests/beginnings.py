@@ -13,6 +13,7 @@ bytes before its own. Decks that are made of an image get the same note. Last co
 text.
 """
 
+import gzip
 import re
 import sys
 from random import Random
@@ -302,6 +303,22 @@ def check_texts(checks, program):
         checks.expect_that(f"{name}, the least job", ran.error.endswith(note), ran)
 
 
+def check_forms(checks, program):
+    """Files of another form, by how they begin."""
+    for name, front, note in [
+        ("gzip", gzip.compress(bytes(64)), "note: this is compressed by gzip; unpack it first\n"),
+        ("two bytes of gzip", b"\x1F\x8B", "note: this is compressed by gzip; unpack it first\n"),
+        ("a byte of gzip", b"\x1F", ""),
+        (
+            "an object deck",
+            b"\x02" + "ESD      ".encode("cp037") + bytes(70),
+            "note: this is an object deck; link and load it first\n",
+        ),
+        ("no object deck", b"\x02" + "ESB".encode("cp037"), ""),
+    ]:
+        checks.expect(name, (0, note), found(program, front))
+
+
 def check(checks, built):
     program, random = built.chanv(), Random(SEED)
     check_cases(checks, program)
@@ -310,3 +327,4 @@ def check(checks, built):
     check_noise(checks, program, random)
     check_decks(checks, program)
     check_texts(checks, program)
+    check_forms(checks, program)

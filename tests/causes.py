@@ -13,6 +13,7 @@ from channel import (  # noqa: E402
     CHAIN_DATA,
     COMMANDS,
     HEADS,
+    LAST_CYLINDER,
     LOW_BITS,
     MASKS,
     Ccw,
@@ -120,6 +121,8 @@ def outside(case):
     wrong = f"head {head} is not below {HEADS[case.job.device]}"
     if not has_cylinder(case.job.extents, cylinder):
         wrong = f"cylinder {cylinder} is in no extent"
+    if cylinder > LAST_CYLINDER:
+        wrong = f"cylinder {cylinder} is above {LAST_CYLINDER}, the device's last"
     if bin_number:
         wrong = f"bin {bin_number:04X} is not zero"
     return f"{wrong}: the argument is {argument_of(case)}"

@@ -20,6 +20,7 @@ struct SearchLoop {
 /// loops fit. An error means that an allocation failed.
 pub fn image_notes(alloc: Global, at: u32, image: &[u8]) -> Result<Vec<u8>, AllocError> {
     let mut text = String::from_str(alloc, text_note(image))?;
+    text.push_str(form_note(image))?;
     let mut loops = search_loops(alloc, image)?;
     loops.sort_unstable();
     let here = at.saturating_add(STORAGE_LIMIT);
@@ -99,6 +100,28 @@ fn text_note(image: &[u8]) -> &'static str {
     }
     if digits {
         return "note: this is text in hexadecimal; an image of storage is raw bytes\n";
+    }
+    ""
+}
+
+/// The notes on images that are a file of another form, each with how the file begins.
+const FORMS: &[(&[u8], &str)] = &[
+    (
+        &[0x1F, 0x8B],
+        "note: this is compressed by gzip; unpack it first\n",
+    ),
+    (
+        &[0x02, 0xC5, 0xE2, 0xC4],
+        "note: this is an object deck; link and load it first\n",
+    ),
+];
+
+/// The note on an image that is a file of another form.
+fn form_note(image: &[u8]) -> &'static str {
+    for (front, note) in FORMS {
+        if image.starts_with(front) {
+            return note;
+        }
     }
     ""
 }

@@ -3,7 +3,7 @@
 use crate::texts::{Address, Digits, Range, Size};
 use ccw_core::Area;
 use chan_walk::{Evidence, GivenBytes, Outside};
-use ckd_core::{Command, FileMask, further_name, lookup};
+use ckd_core::{Command, FileMask, LAST_CYLINDER, further_name, lookup};
 use std::alloc::{AllocError, Global};
 use std::fmt::Write as _;
 
@@ -69,6 +69,9 @@ fn push_seek(out: &mut String, outside: Outside) -> Result<(), AllocError> {
             let high = Digits(high);
             let low = Digits(low);
             write!(out, "bin {high}{low} is not zero")
+        }
+        Outside::Cylinder(cylinder) if cylinder > LAST_CYLINDER => {
+            write!(out, "cylinder {cylinder} is above {LAST_CYLINDER}, the device's last")
         }
         Outside::Cylinder(cylinder) => write!(out, "cylinder {cylinder} is in no extent"),
         Outside::Head { head, heads } => write!(out, "head {head} is not below {heads}"),
