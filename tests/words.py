@@ -4,7 +4,7 @@ explain.txt has a line for each word, in the order in which `chanv explain` alon
 Indented lines under it explain the word at length; `chanv explain WORD` writes these, or else the
 line, in any case of the word's letters. The words explained at length are the reasons of the table
 in docs/VERDICT.md, the causes of the table in docs/DECK.md, and the failures of the table in
-docs/OUTPUT.md, in this order. The commands of docs/DEVICE.md are words too, each with its code.
+docs/OUTPUT.md, in this order, and last a deck, which is judged yes. The commands of docs/DEVICE.md are words too, each with its code.
 Each word that `verify`, `list`, `why`, `needs`, `graph` or `find` writes about an example is known,
 and so are codes, the names of further codes, masks, and flags as a row shows them. Any other word
 is refused, and the nearest is named. And `chanv why` gives the cause of each example deck's no in a
@@ -61,7 +61,7 @@ UNKNOWN = {
 }
 
 # words of wide listings, pictures and `find` that mean what they mean anywhere, and two marks
-PLAIN = ["->", "seeks", "sets", "until", "if", "over", "CCWs"]
+PLAIN = ["->", "seeks", "sets", "until", "if", "over", "at", "byte", "bytes", "CCWs"]
 # words that have to be among those of an answer, so that none is overlooked
 SOME_OF = {
     "why FILE": {"changes-argument", "short-seek"},
@@ -212,6 +212,8 @@ def words_of(text):
     """The words of an answer: phrases that begin a line, and else all but numbers."""
     for line in text.splitlines():
         phrase = next((phrase for phrase in PHRASES if line.startswith(phrase)), "")
+        # the text of a key has words of its own
+        line = re.sub(r"\(key '[^']*'\)", "key", line)
         parts = re.sub(r"[(),]", "", line).split(" ")
         flags = "".join(part for part in parts if FLAGS.fullmatch(part)).strip("01234567")
         words = [part for part in parts if not NUMBER.fullmatch(part) and not FLAGS.fullmatch(part)]
@@ -310,7 +312,11 @@ def check(checks, built):
         checks.expect_that(f"the table of {table[0]} has words", words, words)
         listed += words
     at_length = [word for _, word, more in re.findall(WORD, explained) if more]
-    checks.expect("the words of the tables, and those explained at length", listed, at_length)
+    wanted = [*listed, "deck"]
+    checks.expect("the words of the tables, and those explained at length", wanted, at_length)
+    [deck] = re.findall(r"(?s)chanv deck 1\n.*", run(program, "explain", "deck").output)
+    judged = run(program, "verify", given=deck.encode())
+    checks.expect("the deck of explain deck", Ran(0, "yes\n"), judged)
     for word, meaning in meanings.items():
         checks.expect(word, Ran(0, meaning), run(program, "explain", word))
         checks.expect(word.upper(), Ran(0, meaning), run(program, "explain", word.upper()))

@@ -6,7 +6,7 @@ use strsim::levenshtein;
 /// A row for each word that is explained at length, in the order of the list. The row's first line
 /// is the word, a colon, a space, and what the word means in a few words. Further lines say it at
 /// length.
-pub const WORDS_AT_LENGTH: [&'static str; 41] = [
+pub const WORDS_AT_LENGTH: [&'static str; 42] = [
     "misaligned: a CCW at an address that isn't a multiple of 8
 The CCW's address isn't a multiple of 8, so there can be no CCW.
 Correct the start, or the transfer in channel that leads there: nothing else
@@ -203,10 +203,27 @@ Write a CCW's eight bytes as two digits each, without spaces.",
     "no-such-word: a word that chanv doesn't know
 chanv doesn't know this word.
 `chanv explain` without a word lists all words.",
+    "deck: a text with main storage and a job, which chanv judges
+This deck is judged yes. Its program searches for a record and reads it. Words
+and numbers have one blank between them and none around; addresses, lengths,
+sizes, the mask and the bytes of storage are hexadecimal, cylinders are decimal.
+`man chanv` names the page on decks.
+chanv deck 1
+device 2314
+mask 00
+start 000800
+extent 010 019
+fetch 000900 000010
+store 000A00 000100
+storage 0001000
+put 000800 3100090040000005
+put 000808 0800080000000000
+put 000810 06000A0020000050
+end",
 ];
 
 /// The rows of the other words, which come after these. The checker can't read both as one table.
-pub const WORDS_IN_SHORT: [&'static str; 113] = [
+pub const WORDS_IN_SHORT: [&'static str; 122] = [
     "yes: no run of the program does harm, whatever the disk holds",
     "no: the CCW at this address offends, for this reason",
     "place: a CCW together with the way in which the program enters it",
@@ -240,17 +257,26 @@ pub const WORDS_IN_SHORT: [&'static str; 113] = [
     "extent: a run of cylinders, first and last, that seeks may go to",
     "fetch: an area lent for fetching, from storage to the disk: its address and its length",
     "store: an area lent for storing, from the disk into storage: its address and its length",
+    "put: a line of a deck: the address of a doubleword, and its eight bytes",
+    "device: the disk that the program runs against, 2311 or 2314",
+    "start: the address of the program's first CCW; in a picture, where the program begins",
+    "end: the last line of a deck; in a picture, where the program may end",
+    "storage: main storage; in a deck and in --storage, how many bytes it has, in hexadecimal",
+    "CCW: a channel command word: code, data address, flags, a spare byte and count",
+    "SLI: see L",
+    "PCI: see P",
     "keep: bytes that nothing else may change while the program runs",
     "kept: the guarded bytes of the open job; `chanv needs` lists them as keep",
     "lent: the job allows the program to fetch from these bytes, or to store into them",
     "job: a channel program before its start, with everything that it may use",
     "open job: the job that grants everything: mask C0, cylinders 0 to 202, and all of storage",
     "least job: the job that grants exactly what the program needs",
-    "deck: a text with main storage and a job, which chanv judges",
     "image: the raw bytes of main storage; `chanv deck` turns them into a deck",
     "argument: the bytes that a seek (bin, cylinder, head), a search or a Set File Mask takes",
     "cylinder: where a seek moves the arm, 0 to 202",
     "head: which of a cylinder's tracks is read or written",
+    "record: data on a track, before it a count with its number, and perhaps a key",
+    "key: the bytes of a record before its data, by which a search can find it",
     "guarded: bytes that no reachable CCW may store over: CCWs, arguments of seeks, mask bytes",
     "clear: a place without a fault of its own",
     "fetches: in a picture, the bytes that the CCW fetches from storage",
