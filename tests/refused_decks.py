@@ -143,7 +143,7 @@ def rows():
 
 # a row of OUTPUT's table on `expected` that is about one cause, and what stands for a value there
 CONDITION = r"(?m)^\| `([a-z-]+)` \| (.*) \|$"
-VALUES = {"ADDRESS": "[0-9A-F]{6}", "SSSSSSS": "[0-9A-F]{7}"}
+VALUES = {"ADDRESS": "[0-9A-F]{6}", "SSSSSSS": "[0-9A-F]{7}", "NNNN": r"\d+"}
 
 
 def conditions():

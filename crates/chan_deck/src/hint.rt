@@ -6,6 +6,7 @@ use crate::keyword::{FORMS, Form, begun_as, forms_behind};
 use crate::lines::next_line;
 use crate::texts::{Address, Digits, Size};
 use crate::version::VersionNumber;
+use ccw_core::STORAGE_LIMIT;
 use std::alloc::{AllocError, Global};
 use std::fmt::Write as _;
 
@@ -181,14 +182,20 @@ fn push_order(out: &mut String, spot: &Spot<'_>, forms: &[Form]) -> Result<(), A
     }
 }
 
-/// If the text begins with a byte-order mark, or the line has a no-break blank or ends with a
-/// carriage return, adds what is wrong with it.
+/// If the text begins with a byte-order mark, or the line has a no-break blank or a tab, begins with
+/// a capital letter or ends with a carriage return, adds what is wrong with it.
 fn push_bytes(out: &mut String, spot: &Spot<'_>) -> Result<(), AllocError> {
     if spot.before.last.is_none() && spot.found.starts_with(BYTE_ORDER_MARK) {
         out.push_str("; a byte-order mark comes before it")?;
     }
     if has_pair(spot.found, 0xC2, 0xA0) {
         out.push_str("; \\xC2\\xA0 is a no-break blank")?;
+    }
+    if spot.found.contains(&b'\t') {
+        out.push_str("; a tab isn't a blank")?;
+    }
+    if spot.found.first().is_some_and(|byte| byte.is_ascii_uppercase()) {
+        out.push_str("; words are in small letters")?;
     }
     if spot.found.ends_with(b"\r") {
         out.push_str("; lines end with a line feed alone")?;
@@ -265,6 +272,19 @@ fn condition(cause: Cause) -> &'static str {
     }
 }
 
+/// Adds the condition of a size, and which size its digits are in decimal, if it would do.
+fn push_size(out: &mut String, spot: &Spot<'_>) -> Result<(), AllocError> {
+    out.push_str(condition(Cause::Size))?;
+    let digits = spot.found.get("storage ".len()..).unwrap_or(b"");
+    match str::from_utf8(digits).unwrap_or("").parse::<u32>() {
+        Ok(number) if number % 8 == 0 && number <= STORAGE_LIMIT => {
+            let size = Size(number);
+            write!(out, "; decimal {number} is {size}")
+        }
+        _ => Ok(()),
+    }
+}
+
 /// Whether the input isn't text, judged by the first bytes of its first line. A byte-order mark may
 /// come before them, and a no-break blank between them.
 fn is_no_text(spot: &Spot<'_>) -> bool {
@@ -303,6 +323,7 @@ fn push_expected(out: &mut String, spot: &Spot<'_>, cause: Cause) -> Result<(), 
         }
         Cause::Ended | Cause::Header | Cause::Form => push_forms(out, spot),
         Cause::PutAddress => push_place(out, spot),
+        Cause::Size => push_size(out, spot),
         _ => out.push_str(condition(cause)),
     }
 }
