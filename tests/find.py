@@ -234,6 +234,13 @@ def check_large(checks, program):
     ]:
         ran = run(program, "find", "--device", "2314", given=image)
         checks.expect(f"an image of {name}", Ran(0, line, "" if line else NONE_FOUND), ran)
+    for words, note in [
+        (["--at", "0"], NONE_FOUND),
+        (["--at", "800"], "note: no program found\n"),
+        (["--storage", "1000"], "note: no program found\n"),
+    ]:
+        ran = run(program, "find", "--device", "2314", *words, given=bytes(64))
+        checks.expect(f"no program, with {' '.join(words)}", Ran(0, "", note), ran)
     wanted = Ran(2, "", "chanv: image too long\n")
     ran = run(program, "find", "--device", "2314", given=bytes(LARGEST + 1))
     checks.expect("an image that is too long", wanted, ran)

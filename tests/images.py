@@ -155,7 +155,7 @@ def rows_of_storage():
         place, begins = ["--at", at, "--storage", size], f"note: the image begins at 00000{at}"
         note = f"{begins} and has more than {room} bytes, but storage has {size:0>7}\n"
         yield deck([*SMALL_JOB, *place], Ran(4, "", f"{PAST}{note}"), given)
-        yield Row(["find", "--device=2314", *place], Ran(4, "", PAST), given)
+        yield Row(["find", "--device=2314", *place], Ran(4, "", f"{PAST}{note}"), given)
     note = "note: the image begins at 000009, past storage of 0000008 bytes\n"
     yield deck([*SMALL_JOB, "--at=9", "--storage=8"], Ran(4, "", f"{PAST}{note}"))
 

@@ -11,7 +11,9 @@ is_deck image = starts_with nat_eq image texts.DECK_FRONT.now
 abbrev pub deck_note : List ℕ → List ℕ
 deck_note image = if is_deck image then texts.IS_DECK.now else []
 
--- the note on an image that was searched for programs, and that has some or none
-abbrev pub find_note : List ℕ → Bool → List ℕ
-find_note image has_programs =
-    if is_deck image || has_programs then deck_note image else texts.HAS_NO_PROGRAM.now
+-- the note on an image that was searched for programs, and that has some or none, by whether its
+-- place in storage was given
+abbrev pub find_note : List ℕ → Bool → Bool → List ℕ
+find_note image has_programs is_placed =
+    if is_deck image || has_programs then deck_note image
+    else (if is_placed then texts.HAS_NONE_THERE.now else texts.HAS_NO_PROGRAM.now)

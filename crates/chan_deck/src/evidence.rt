@@ -71,7 +71,10 @@ fn push_seek(out: &mut String, outside: Outside) -> Result<(), AllocError> {
             write!(out, "bin {high}{low} is not zero")
         }
         Outside::Cylinder(cylinder) if cylinder > LAST_CYLINDER => {
-            write!(out, "cylinder {cylinder} is above {LAST_CYLINDER}, the device's last")
+            write!(
+                out,
+                "cylinder {cylinder} is above {LAST_CYLINDER}, the device's last"
+            )
         }
         Outside::Cylinder(cylinder) => write!(out, "cylinder {cylinder} is in no extent"),
         Outside::Head { head, heads } => write!(out, "head {head} is not below {heads}"),

@@ -194,7 +194,11 @@ fn push_bytes(out: &mut String, spot: &Spot<'_>) -> Result<(), AllocError> {
     if spot.found.contains(&b'\t') {
         out.push_str("; a tab isn't a blank")?;
     }
-    if spot.found.first().is_some_and(|byte| byte.is_ascii_uppercase()) {
+    if spot
+        .found
+        .first()
+        .is_some_and(|byte| byte.is_ascii_uppercase())
+    {
         out.push_str("; words are in small letters")?;
     }
     if spot.found.ends_with(b"\r") {

@@ -13,6 +13,9 @@ const IS_DECK: &str = "note: this is a deck; chanv verify judges it\n";
 const HAS_NO_PROGRAM: &str =
     "note: no program found; if the image is a part of storage, give --at and --storage\n";
 
+/// The same, if its place in storage was given.
+const HAS_NONE_THERE: &str = "note: no program found\n";
+
 /// Whether an image begins as a deck does.
 fn is_deck(image: &[u8]) -> bool
     ensures { result ≡ notes.is_deck image.now }
@@ -27,12 +30,17 @@ pub fn deck_note(image: &[u8]) -> &'static str
     if is_deck(image) { IS_DECK } else { "" }
 }
 
-/// The note on an image that was searched for programs, and that has some or none.
-pub fn find_note(image: &[u8], has_programs: bool) -> &'static str
-    ensures { result.now ≡ notes.find_note image.now has_programs }
+/// The note on an image that was searched for programs, and that has some or none; whether its
+/// place in storage was given.
+pub fn find_note(image: &[u8], has_programs: bool, is_placed: bool) -> &'static str
+    ensures { result.now ≡ notes.find_note image.now has_programs is_placed }
 {
     if is_deck(image) || has_programs {
         return deck_note(image);
     }
-    HAS_NO_PROGRAM
+    if is_placed {
+        HAS_NONE_THERE
+    } else {
+        HAS_NO_PROGRAM
+    }
 }

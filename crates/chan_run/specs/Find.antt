@@ -1,6 +1,6 @@
 -- The programs that are found in an image of storage, a line for each.
 use Rattle.std.specs.Prelude.{◌≡◌, ◌⊎◌, ◌<◌, ◌-◌, ℕ, Bool, not, List, [], ◌∷◌, ◌++◌, take}
-use Rattle.std.specs.Prelude.{Option, Some, None}
+use Rattle.std.specs.Prelude.{◌||◌, Option, Some, None, is_some, nat_eq}
 use Rattle.chan_deck.specs.Reading.{is_empty}
 use Rattle.std.specs.Io.KnownBytes.{Appends}
 use Rattle.ccw_core.specs.Written.{AppendsPrefix}
@@ -16,7 +16,7 @@ use Rattle.chan_find.specs.Programs.{AreStarts}
 use Rattle.chan_run.specs.Image.{IsNoImage, IsProgramAt, IsWholeImage}
 use Rattle.chan_deck.specs.ImageNote.{deck_note, find_note}
 use Rattle.chan_run.specs.Output.{IsUnwritten}
-use Rattle.chan_run.specs.Response.{IsBareResponse, IsDelivered, IsResponseWithoutOutput}
+use Rattle.chan_run.specs.Response.{IsDelivered, IsResponseWithoutOutput}
 use Rattle.chan_run.specs.declared.find.TheConstants.{PLACES_JUDGED}
 use Rattle.chan_run.specs.declared.failure.Failure.{Failure}
 use Rattle.chan_run.specs.declared.response.Response.{Response}
@@ -92,11 +92,15 @@ IsSearchOutput o image old new (Failed failures.OutOfMemory) =
     × (n : ℕ) × AreWritten (Appends old new) o image (take n starts))
 IsSearchOutput o image old new _ = ⊥
 
+-- the address of the image or the size of storage was given
+abbrev pub is_placed : ImageOptions → Bool
+is_placed o = not (nat_eq o.at 0) || is_some o.size
+
 -- the note on an image that was searched, by what came of the search
 abbrev pub IsFindNote : ImageOptions → List ℕ → Outcome → List ℕ → Type 0
 IsFindNote o image Done note =
     (starts : List ℕ) × AreStartsInImage o image starts
-    × (note ≡ find_note image (not (is_empty starts)))
+    × (note ≡ find_note image (not (is_empty starts)) (is_placed o))
 IsFindNote o image outcome note = note ≡ deck_note image
 
 -- the input was read to its end, and its image was searched: only the end is left to be delivered
@@ -114,8 +118,8 @@ pub record IsSearched (o : ImageOptions) (old_in new_in old mid : Option (List �
 abbrev pub IsUnsearched : ImageOptions → Option (List ℕ) → Option (List ℕ) → Option (List ℕ)
     → Option (List ℕ) → Response → Type 0
 IsUnsearched o old_in new_in old mid r =
-    (failure : Failure) × IsNoImage o old_in new_in failure × IsBareResponse (Failed failure) [] r
-    × (mid ≡ old)
+    (failure : Failure) × IsNoImage o old_in new_in failure
+    × IsResponseWithoutOutput (Failed failure) [] r × (mid ≡ old)
 
 -- what is left to be delivered of a search for programs, when its lines are written
 abbrev pub IsFindResponse : ImageOptions → Option (List ℕ) → Option (List ℕ) → Option (List ℕ)

@@ -137,7 +137,7 @@ fn respond_to_image_input<R: Read>(
 }
 
 /// For an image that ends past storage, the note on how much room there is.
-fn room_advice(
+pub(crate) fn room_advice(
     alloc: Global,
     options: &ImageOptions,
     failure: Failure,
