@@ -32,6 +32,7 @@ from writing import name_of  # noqa: E402
 
 SEED, SHOWN_CCWS, LONG, MANY = 69, 60, 60_000, 2_000
 COMMANDS = ["verify", "list", "list --wide", "why", "why --all", "graph", "needs", "needs --deck"]
+ACTIONS = ("verify", "why", "list", "needs", "graph")
 PAIRED = ["yes", "no", "damaged", "empty", "many", "folder", "nowhere", "-"]
 IMAGES = ["core", "empty", "long", "folder", "nowhere", "closed"]
 OF_IMAGE = ["find", "deck --start 800 --extent 10-19 --fetch 900+10 --store 900+10"]
@@ -106,7 +107,7 @@ def runs():
     for action in COMMANDS:
         names = [name for name in DECKS if is_told(action, DECKS[name])]
         yield from over_each(action.split(), [*names, *REFUSED], partial(answer, action))
-    for action, pair in product(("verify", "why", "list", "needs"), product(PAIRED, PAIRED)):
+    for action, pair in product(ACTIONS, product(PAIRED, PAIRED)):
         yield [action, *pair], "closed", answers(action, pair, "closed")
     # the deck `no` offends at 000808 alone, and `changes` at 000810
     no, absent = answer("why", "no"), "note: no offence at 000810\n"
@@ -116,11 +117,19 @@ def runs():
     offence = answer("why", "changes", "changes", is_among=True)
     of_two = [offence, Ran(0, YES, f"yes: {absent}")]
     yield ["why", "--of", "810", "changes", "yes"], "closed", of_two
+    for pair in product(("core", "empty", "nowhere"), repeat=2):
+        yield ["find", "--device", "2314", *pair], "closed", [*map(found_in, pair)]
     for words in OF_IMAGE:
         action, *options = words.split()
         part_of = partial(of_image, action)
         yield from over_each([action, "--device", "2314", *options], IMAGES, part_of)
         yield from over_each([action, *options], IMAGES, part_of, USUAL_DEVICE)
+
+
+def found_in(name):
+    """What `find` says of one of several images: its name comes over its lines."""
+    part = of_image("find", name, name)
+    return part if part.status else part._replace(output=f"{name}:\n{part.output}")
 
 
 def rows_of_streams():

@@ -14,6 +14,7 @@ from wide import two_ways_deck
 
 YES, MANY = Ran(0, "yes\n"), Ran(2, "", "chanv: too many places\n")
 TOO_LONG = Ran(2, "", "chanv: deck too long\n")
+GONE = '{ sleep 0.2; "$@"; } | true; exit "${PIPESTATUS[0]}"'
 FIRST_ROW = '"$@" | head -n 1; exit "${PIPESTATUS[0]}"'
 
 # a No Operation, and one that chains; a search, a transfer back to it, and a read
@@ -109,6 +110,14 @@ def rows_of_limits():
     yield Row(["list"], Ran(0, SEARCH.format(".")), SEARCH_LOOP, FIRST_ROW)
     row = "000800 fresh t . 03 000000 -C---0 00 0001 control no-operation\n"
     yield over(chain_of(4096), Ran(3, row, "chanv: write failed\n"), "list", script=FIRST_ROW)
+    # a reader that is gone before anything is written has read enough of an explanation
+    for words, error in [
+        (["explain"], ""),
+        (["explain", "deck"], ""),
+        (["--help"], "chanv: write failed\n"),
+        (["list"], "chanv: write failed\n"),
+    ]:
+        yield Row(words, Ran(3 if error else 0, "", error), SEARCH_LOOP, GONE)
 
 
 def rows_of_exchanged():

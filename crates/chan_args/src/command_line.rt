@@ -12,12 +12,14 @@ use std::alloc::{AllocError, Global};
 /// The request of a command line.
 #[derive(Drop)]
 pub enum Request<'a> {
-    /// To show a CCW. The text is the word that was given for it.
-    Show(&'a str),
-    /// The same, with the name of its command.
-    ShowNamed(&'a str),
+    /// To show a CCW. The texts are the words that were given for it: one, or two of eight digits.
+    Show(Vec<&'a str>),
+    /// The same, with the name of its command; there may be any number of words.
+    ShowNamed(Vec<&'a str>),
     /// Nothing: no word was given for the CCW that is to be shown.
     NoCcw,
+    /// Nothing: too many words were given for it.
+    ManyCcws,
     /// To read a deck from standard input and do this with it.
     Run(Action),
     /// To read the deck of each of these in turn and do this with it. Each is the name of a file,
@@ -79,7 +81,7 @@ fn request_named<'a>(
     matches: &ArgMatches<'a>,
 ) -> Result<Request<'a>, AllocError> {
     match name {
-        "show" => Ok(show_request(matches)),
+        "show" => show_request(alloc, matches),
         "list" => list_request(alloc, matches),
         "why" => why_request(alloc, matches),
         "graph" => request_over(alloc, Action::Graph, matches),
@@ -91,12 +93,27 @@ fn request_named<'a>(
     }
 }
 
-/// The request to show the word that clap met as the CCW.
-fn show_request<'a>(matches: &ArgMatches<'a>) -> Request<'a> {
-    match text_met(matches, "CCW") {
-        Some(word) if is_flagged(matches, "name") => Request::ShowNamed(word),
-        Some(word) => Request::Show(word),
-        None => Request::NoCcw,
+/// The request to show the words that clap met as the CCW.
+fn show_request<'a>(alloc: Global, matches: &ArgMatches<'a>) -> Result<Request<'a>, AllocError> {
+    let words = texts_met(alloc, matches, "CCW")?;
+    if words.is_empty() {
+        return Ok(Request::NoCcw);
+    }
+    if is_flagged(matches, "name") {
+        return Ok(Request::ShowNamed(words));
+    }
+    if may_be_ccw(words.as_slice()) {
+        return Ok(Request::Show(words));
+    }
+    Ok(Request::ManyCcws)
+}
+
+/// Whether words may be one CCW: it is one word, or two of eight characters.
+fn may_be_ccw(words: &[&str]) -> bool {
+    match words {
+        [_] => true,
+        [first, second] => first.len() == 8 && second.len() == 8,
+        _ => false,
     }
 }
 

@@ -39,8 +39,8 @@ const USAGE: &str = "chanv verify [FILE]...
        chanv list [--wide|--range <AREA>] [FILE]...
        chanv why [--all|--of <ADDRESS>] [FILE]...
        chanv needs [--deck] [FILE]...
-       chanv graph [FILE]
-       chanv find [OPTIONS] [FILE]
+       chanv graph [FILE]...
+       chanv find [OPTIONS] [FILE]...
        chanv deck --start <ADDRESS> <--least|--open> [OPTIONS] [FILE]
        chanv deck --start <ADDRESS> --extent <FIRST-LAST> [OPTIONS] [FILE]
        chanv explain [WORD]...
@@ -56,7 +56,7 @@ const USAGE_OF_WHY: &str = "chanv why [--all|--of <ADDRESS>] [FILE]...";
 
 const USAGE_OF_NEEDS: &str = "chanv needs [--deck] [FILE]...";
 
-const USAGE_OF_FIND: &str = "chanv find [OPTIONS] [FILE]";
+const USAGE_OF_FIND: &str = "chanv find [OPTIONS] [FILE]...";
 
 const USAGE_OF_DECK: &str = "chanv deck --start <ADDRESS> <--least|--open> [OPTIONS] [FILE]
        chanv deck --start <ADDRESS> --extent <FIRST-LAST> [OPTIONS] [FILE]";
@@ -102,6 +102,7 @@ The exit status is the same as for `chanv verify`; see its help.";
 /// The end of the help of `graph`.
 const OF_GRAPH: &str = "To see the picture:
   chanv graph my.deck | dot -Tsvg > my.svg
+With several FILEs, the output has a picture for each, with its name.
 
 The exit status is the same as for `chanv verify`; see its help.";
 
@@ -134,6 +135,8 @@ Behind yes and no come the number of CCWs and the names of the first commands.
 A program starts at a CCW without a fault that leads to a second CCW, unless
 another listed program leads to it. `man chanv` names the page on programs that
 find misses. If --at or --storage is wrong, so are the answers.
+
+With several FILEs, the lines of each come under a line `FILE:`.
 
 The exit status is 0, even if there is no program, or the same as for
 `chanv deck`; see its help.";
@@ -200,13 +203,6 @@ const AS_DECK: Word = (
     "writes the deck that grants exactly this",
 );
 
-const DECK: Word = (
-    "FILE",
-    Given::Plain,
-    "",
-    "a deck; standard input if FILE is - or left out",
-);
-
 const DEVICE: Word = (
     "device",
     Given::Valued,
@@ -231,6 +227,13 @@ const STORAGE: Word = (
 const IMAGE: Word = (
     "FILE",
     Given::Plain,
+    "",
+    "an image of storage; standard input if FILE is - or left out",
+);
+
+const IMAGES: Word = (
+    "FILE",
+    Given::Repeated,
     "",
     "an image of storage; standard input if FILE is - or left out",
 );
@@ -286,7 +289,7 @@ const MAKING: &[Word] = &[
     IMAGE,
 ];
 
-/// The options of a search for programs in an image, and the image.
+/// The options of a search for programs in images, and the images.
 const SEARCHING: &[Word] = &[
     DEVICE,
     (
@@ -297,12 +300,17 @@ const SEARCHING: &[Word] = &[
     ),
     AT,
     STORAGE,
-    IMAGE,
+    IMAGES,
 ];
 
 /// The CCW that is shown, and how. Without it `chan_run` reports that it is required.
 const SHOWING: &[Word] = &[
-    ("CCW", Given::Plain, "", "sixteen hexadecimal digits"),
+    (
+        "CCW",
+        Given::Repeated,
+        "",
+        "sixteen hexadecimal digits, or twice eight",
+    ),
     ("name", Given::Flag, "", "adds the name of the command"),
 ];
 
@@ -338,14 +346,14 @@ pub(crate) const COMMANDS: &[CommandRow] = &[
     ),
     (
         "graph",
-        "draws the program of one deck for Graphviz",
+        "draws the program of each deck for Graphviz",
         OF_GRAPH,
-        &[DECK],
+        &[DECKS],
         "",
     ),
     (
         "find",
-        "finds programs in an image of storage, and judges each",
+        "finds programs in images of storage, and judges each",
         OF_FIND,
         SEARCHING,
         USAGE_OF_FIND,

@@ -13,18 +13,10 @@ const ALL_CYLINDERS: &str = "0-202";
 pub struct ImageRequest<'a> {
     /// The texts of the options, the usual ones for options that aren't given.
     pub words: ImageWords<'a>,
-    /// The file that has the image, or `None` for standard input.
-    pub file: Option<&'a str>,
+    /// The files that have the images, or none for standard input. Of a deck there is one at most.
+    pub files: Vec<&'a str>,
     /// Whether no device is named, so that it is the usual one.
     pub is_usual_device: bool,
-}
-
-/// The file that clap met, unless it is standard input.
-fn file<'a>(matches: &ArgMatches<'a>) -> Option<&'a str> {
-    match text_met(matches, "FILE") {
-        Some(name) if name != "-" => Some(name),
-        _ => None,
-    }
 }
 
 /// The job that is asked for.
@@ -119,7 +111,7 @@ pub(crate) fn image_request<'a>(
 ) -> Result<ImageRequest<'a>, AllocError> {
     Ok(ImageRequest {
         words: image_words(alloc, matches)?,
-        file: file(matches),
+        files: texts_met(alloc, matches, "FILE")?,
         is_usual_device: text_met(matches, "device").is_none(),
     })
 }

@@ -8,14 +8,7 @@ const UNEXPECTED: &str = "error: unexpected argument '";
 /// The same of an option.
 const UNEXPECTED_OPTION: &str = "error: unexpected argument '-";
 
-// What is said in its place for the commands that take one FILE or one CCW.
-const ONE_OF_GRAPH: &str = "error: chanv graph takes one FILE; run it once for each";
-
-const ONE_OF_FIND: &str = "error: chanv find takes one FILE; run it once for each";
-
-const ONE_OF_SHOW: &str = "error: chanv show takes one CCW; put it in quotation marks after --name";
-
-/// What is said for `deck` if an address stands where the FILE does, around that address.
+/// What is said in its place for `deck` if an address stands where the FILE does, around that address.
 const ONE_OF_DECK: &str = "error: chanv deck takes one FILE, and '";
 
 const GIVE_START: &str = "' is taken for it; give the address as --start ";
@@ -28,16 +21,6 @@ const LINE_FEED: &str = "\n";
 
 /// A first line in parts: a text, a word, a text and the word again.
 pub(crate) type FirstLine<'a> = (&'a str, &'a str, &'a str, &'a str);
-
-/// What is said of a word too many for a command that takes one.
-fn takes_one<'a>(command: &str) -> Option<&'a str> {
-    match command {
-        "graph" => Some(ONE_OF_GRAPH),
-        "find" => Some(ONE_OF_FIND),
-        "show" => Some(ONE_OF_SHOW),
-        _ => None,
-    }
-}
 
 /// The first word of `deck` that is a hexadecimal number where the FILE stands: after the command
 /// or after an option without a value.
@@ -54,12 +37,11 @@ fn taken_for_file(words: &[String]) -> Option<&str> {
 
 /// The first line for these words of a command.
 fn first_line_of<'a>(command: &str, words: &'a [String]) -> Option<FirstLine<'a>> {
-    if command == "deck" {
-        let word = taken_for_file(words)?;
-        return Some((ONE_OF_DECK, word, GIVE_START, word));
+    if command != "deck" {
+        return None;
     }
-    let text = takes_one(command)?;
-    Some((text, "", "", ""))
+    let word = taken_for_file(words)?;
+    Some((ONE_OF_DECK, word, GIVE_START, word))
 }
 
 /// The first line that is said of these words in place of that of the library's text, and what

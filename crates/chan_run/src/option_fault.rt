@@ -32,6 +32,11 @@ const NO_CCW: &str = "error: the following required arguments were not provided:
 
 Usage: chanv show [--name] <CCW>";
 
+/// The text of the usage fault that there are too many words for one.
+const MANY_CCWS: &str = "error: chanv show takes one CCW; --name takes it in any words
+
+Usage: chanv show [--name] <CCW>";
+
 // What the text of the usage fault says of a file in place of a command.
 const NO_COMMAND: &str = " isn't a command; chanv verify ";
 
@@ -151,10 +156,20 @@ pub fn report_no_ccw<W: Write>(to: &mut Watched<W>) -> u8
     4
 }
 
+/// Writes the text of the usage fault that too many words were given for a CCW, and gives the exit
+/// status, 4, as `report_option` does.
+pub fn report_many_ccws<W: Write>(to: &mut Watched<W>) -> u8
+    requires { to.old.failed ≡ false }
+    ensures { result ≡ 4 }
+{
+    let _ = write_texts(&[MANY_CCWS, MORE], to);
+    4
+}
+
 /// Writes the text of a usage fault that the command line's library words, and gives the exit
 /// status, 4, as `report_option` does. It leaves out the library's tips to pass an option as a
-/// value and to give `--storage` for `--start`. If a command that takes one FILE or one CCW gets a
-/// word too many, the first line says so.
+/// value and to give `--storage` for `--start`. If `deck` gets an address in place of its FILE, the
+/// first line says so.
 pub fn report_usage<'a, W: Write>(words: &'a [String], text: &'a str, to: &mut Watched<W>) -> u8
     requires { to.old.failed ≡ false }
     ensures { result ≡ 4 }

@@ -18,13 +18,13 @@ use chan_run::{
     Failure, ImageOptions, Naming, OptionError, Outcome, Response, address_option, deliver,
     ends_run, exit_status, explain_word, find_programs, greater_status, judge_deck, list_words,
     make_deck, note_usual_device, options_of, range_option, report, report_all_with_of,
-    report_file, report_grants, report_no_ccw, report_option, report_usage, report_wide_with_range,
+    report_file, report_grants, report_many_ccws, report_no_ccw, report_option, report_usage, report_wide_with_range,
     respond_to_ccw, show, shown_word,
 };
 use std::alloc::AllocError;
 use std::env::{Env, FillError};
 use std::fs::File;
-use std::io::Read;
+use std::io::{Read, Write};
 use std::process::ExitCode;
 use std::rt::{Stdin, Stdout};
 use std::{io, str};
@@ -77,6 +77,23 @@ impl Read for Input {
     }
 }
 
+/// The output of `explain`: whoever has stopped reading has read enough.
+#[derive(Drop)]
+struct Explanation(Stdout);
+
+impl Write for Explanation {
+    fn write(&mut self, bytes: &[u8]) -> io::Result<usize> {
+        match self.0.write(bytes) {
+            Err(error) if error.kind() == io::ErrorKind::BrokenPipe => Ok(bytes.len()),
+            written => written,
+        }
+    }
+
+    fn flush(&mut self) -> io::Result<()> {
+        self.0.flush()
+    }
+}
+
 fn main(rt: HostRuntime) -> ExitCode {
     ExitCode::from(match read_words(&rt) {
         Ok(words) => carry_out(&rt, &words),
@@ -119,8 +136,9 @@ fn read_word(rt: &HostRuntime, number: usize) -> Result<Option<Vec<u8>>, AllocEr
 /// Does what the words ask for, and gives the exit status.
 fn carry_out(rt: &HostRuntime, words: &Words) -> u8 {
     match read_request(rt.alloc(), words.shown.as_slice()) {
-        Request::Show(text) => show_ccw(rt, text),
-        Request::ShowNamed(text) => deliver_out(rt, &respond_to_ccw(rt.alloc(), text.as_bytes())),
+        Request::Show(parts) => show_ccw(rt, parts.as_slice()),
+        Request::ShowNamed(parts) => show_named_ccw(rt, parts.as_slice()),
+        Request::ManyCcws => report_many_ccws(&mut Watched::new(rt.stderr())),
         Request::NoCcw => report_no_ccw(&mut Watched::new(rt.stderr())),
         Request::Run(action) => {
             exit_status(run_over(rt, action, UNNAMED, Input::Standard(rt.stdin())))
@@ -165,7 +183,7 @@ fn report_on(rt: &HostRuntime, name: Option<&str>, outcome: Outcome) -> u8 {
 }
 
 /// Ends with an outcome of which this is the output, and gives the exit status.
-fn end_with(rt: &HostRuntime, outcome: Outcome, output: &mut Watched<Stdout>) -> u8
+fn end_with<W: Write>(rt: &HostRuntime, outcome: Outcome, output: &mut Watched<W>) -> u8
     requires { IsWriteFailure outcome ↔ (output.old.failed ≡ true) }
 {
     let end = Response::bare(rt.alloc(), outcome, "");
@@ -191,28 +209,40 @@ fn deliver_out(rt: &HostRuntime, response: &Response) -> u8
     exit_status(deliver(None, response, &mut output, &mut Watched::new(rt.stderr())))
 }
 
-fn show_ccw(rt: &HostRuntime, text: &str) -> u8 {
+/// Shows the CCW of which these are the digits, one part behind the other.
+fn show_ccw(rt: &HostRuntime, parts: &[&str]) -> u8 {
     let mut output = Watched::new(rt.stdout());
-    let answer = show(rt.alloc(), text.as_bytes(), false, &mut output);
-    end_with(rt, Outcome::of_show(answer), &mut output)
+    let answer = match joined(rt, parts, "") {
+        Ok(text) => Outcome::of_show(show(rt.alloc(), text.as_bytes(), false, &mut output)),
+        Err(AllocError) => Outcome::Failed(Failure::OutOfMemory),
+    };
+    end_with(rt, answer, &mut output)
+}
+
+/// Shows the CCW whose parts have a space between two, with the name of its command.
+fn show_named_ccw(rt: &HostRuntime, parts: &[&str]) -> u8 {
+    match joined(rt, parts, " ") {
+        Ok(text) => deliver_out(rt, &respond_to_ccw(rt.alloc(), text.as_bytes())),
+        Err(AllocError) => report_on(rt, None, Outcome::Failed(Failure::OutOfMemory)),
+    }
 }
 
 /// Explains a word whose parts stand with a space between two.
 fn explain(rt: &HostRuntime, parts: &[&str]) -> u8 {
-    let mut output = Watched::new(rt.stdout());
-    let answer = match spaced(rt, parts) {
+    let mut output = Watched::new(Explanation(rt.stdout()));
+    let answer = match joined(rt, parts, " ") {
         Ok(word) => explain_word(rt.alloc(), word.as_str(), &mut output),
         Err(AllocError) => Outcome::Failed(Failure::OutOfMemory),
     };
     end_with(rt, answer, &mut output)
 }
 
-/// Some texts with a space between two.
-fn spaced(rt: &HostRuntime, parts: &[&str]) -> Result<String, AllocError> {
+/// Some texts with another between two.
+fn joined(rt: &HostRuntime, parts: &[&str], between: &str) -> Result<String, AllocError> {
     let mut text = String::new(rt.alloc());
     for (k, part) in parts.iter().enumerate() {
         if k > 0 {
-            text.push(' ')?;
+            text.push_str(between)?;
         }
         text.push_str(part)?;
     }
@@ -246,7 +276,7 @@ fn run_over_all(rt: &HostRuntime, words: &Words, action: Action, names: &[&str])
 }
 
 fn list_all_words(rt: &HostRuntime) -> u8 {
-    let mut output = Watched::new(rt.stdout());
+    let mut output = Watched::new(Explanation(rt.stdout()));
     let answer = list_words(&mut output);
     end_with(rt, answer, &mut output)
 }
@@ -388,13 +418,46 @@ fn carry_out_request(
     if request.is_usual_device {
         note_usual_device(&mut Watched::new(rt.stderr()));
     }
-    match request.file {
-        None => carry_out_over(rt, None, &options, finds, Input::Standard(rt.stdin())),
-        Some(name) => match open_file(rt, words, words.first_shown_as(0, name)) {
-            Ok(file) => carry_out_over(rt, Some(name), &options, finds, Input::File(file)),
-            Err(outcome) => report_on(rt, Some(name), outcome),
-        },
+    match request.files.as_slice() {
+        [] | ["-"] => carry_out_over(rt, None, &options, finds, Input::Standard(rt.stdin())),
+        names => carry_out_over_each(rt, words, names, &options, finds),
     }
+}
+
+/// Does so with each image in turn, up to a failed write, and gives the greatest status. The names
+/// are in the order of the words. Over the lines of one of several stands its name.
+fn carry_out_over_each(
+    rt: &HostRuntime,
+    words: &Words,
+    names: &[&str],
+    options: &ImageOptions,
+    finds: bool,
+) -> u8 {
+    let mut greatest = 0;
+    let mut number = 0;
+    for name in names {
+        number = words.first_shown_as(number, name);
+        let status = match open_input(rt, words, number, name) {
+            Ok(input) => {
+                if names.len() > 1 && !print_heading(rt, name) {
+                    return exit_status(Outcome::Failed(Failure::WriteFailed));
+                }
+                carry_out_over(rt, Some(name), options, finds, input)
+            }
+            Err(outcome) => report_on(rt, Some(name), outcome),
+        };
+        greatest = greater_status(greatest, status);
+    }
+    greatest
+}
+
+/// Writes the line over the lines of one of several inputs, or reports that it can't.
+fn print_heading(rt: &HostRuntime, name: &str) -> bool {
+    let status = match joined(rt, &[name, "\n"], ":") {
+        Ok(line) => print_out(rt, line),
+        Err(AllocError) => report_on(rt, None, Outcome::Failed(Failure::OutOfMemory)),
+    };
+    status == 0
 }
 
 /// Finds the programs in an image that may have a name, or makes a deck of it.
