@@ -17,6 +17,8 @@ pub struct ImageRequest<'a> {
     pub file: Option<&'a str>,
     /// Whether no device is named, so that it is the usual one.
     pub is_usual_device: bool,
+    /// Whether the address of the image is given.
+    pub is_placed: bool,
 }
 
 /// The file that clap met, unless it is standard input.
@@ -121,5 +123,6 @@ pub(crate) fn image_request<'a>(
         words: image_words(alloc, matches)?,
         file: file(matches),
         is_usual_device: text_met(matches, "device").is_none(),
+        is_placed: text_met(matches, "at").is_some(),
     })
 }

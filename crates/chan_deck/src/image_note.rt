@@ -14,7 +14,7 @@ const HAS_NO_PROGRAM: &str =
     "note: no program found; if the image is a part of storage, give --at and --storage\n";
 
 /// Whether an image begins as a deck does.
-fn is_deck(image: &[u8]) -> bool
+pub(crate) fn is_deck(image: &[u8]) -> bool
     ensures { result ≡ notes.is_deck image.now }
 {
     image.starts_with(DECK_FRONT.as_bytes())

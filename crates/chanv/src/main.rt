@@ -15,10 +15,11 @@ ghost use Rattle.chan_run.specs.Outcome.{IsWriteFailure};
 use ccw_core::Watched;
 use chan_args::{Action, Explained, ImageRequest, Request, read_request};
 use chan_run::{
-    Failure, ImageOptions, Naming, OptionError, Outcome, Response, address_option, deliver,
+    Failure, ImageInput, ImageOptions, Naming, OptionError, Outcome, Response, address_option, deliver,
     ends_run, exit_status, explain_word, find_programs, greater_status, judge_deck, list_words,
     make_deck, note_usual_device, options_of, report, report_all_with_of, report_file,
     report_grants, report_no_ccw, report_option, report_usage, respond_to_ccw, show, shown_word,
+    take_image,
 };
 use std::alloc::AllocError;
 use std::env::{Env, FillError};
@@ -373,9 +374,15 @@ fn carry_out_request(
         note_usual_device(&mut Watched::new(rt.stderr()));
     }
     match request.file {
-        None => carry_out_over(rt, None, &options, finds, Input::Standard(rt.stdin())),
+        None => {
+            let input = Input::Standard(rt.stdin());
+            carry_out_over(rt, None, options, request.is_placed, finds, input)
+        }
         Some(name) => match open_file(rt, words, words.first_shown_as(0, name)) {
-            Ok(file) => carry_out_over(rt, Some(name), &options, finds, Input::File(file)),
+            Ok(file) => {
+                let input = Input::File(file);
+                carry_out_over(rt, Some(name), options, request.is_placed, finds, input)
+            }
             Err(outcome) => report_on(rt, Some(name), outcome),
         },
     }
@@ -385,18 +392,26 @@ fn carry_out_request(
 fn carry_out_over(
     rt: &HostRuntime,
     name: Option<&str>,
-    options: &ImageOptions,
+    options: ImageOptions,
+    is_placed: bool,
     finds: bool,
     input: Input,
 ) -> u8 {
-    if finds {
-        return find_in(rt, name, options, input);
+    let mut errors = Watched::new(rt.stderr());
+    match take_image(rt.alloc(), name, options, is_placed, input, &mut errors) {
+        Ok((options, image)) if finds => find_in(rt, name, &options, image),
+        Ok((options, image)) => make_deck_from(rt, name, &options, image),
+        Err(status) => status,
     }
-    make_deck_from(rt, name, options, input)
 }
 
 /// Finds the programs in an image that may have a name, and gives the exit status.
-fn find_in(rt: &HostRuntime, name: Option<&str>, options: &ImageOptions, input: Input) -> u8 {
+fn find_in(
+    rt: &HostRuntime,
+    name: Option<&str>,
+    options: &ImageOptions,
+    input: ImageInput<Input>,
+) -> u8 {
     let mut input = Watched::new(input);
     let mut output = Watched::new(rt.stdout());
     let mut errors = Watched::new(rt.stderr());
@@ -415,7 +430,7 @@ fn make_deck_from(
     rt: &HostRuntime,
     name: Option<&str>,
     options: &ImageOptions,
-    input: Input,
+    input: ImageInput<Input>,
 ) -> u8 {
     let mut input = Watched::new(input);
     let mut output = Watched::new(rt.stdout());
