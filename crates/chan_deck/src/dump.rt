@@ -23,32 +23,17 @@ const REPEAT: &str = "it isn't known what is repeated, or how often";
 
 /// What a line begins with that may come between the lines of a dump and tells no bytes: headings of
 /// an ABEND dump, and what a log of Hercules has.
-const HEADINGS: [&str; 16] = [
-    "JOB ",
-    "COMPLETION CODE",
-    "NUCLEUS",
-    "REGS ",
-    "FLTS ",
-    "FLTR ",
-    "P/P ",
-    "SP ",
-    "LOAD MODULE ",
-    "CSECT ",
-    "TRACE ",
-    "PAGE ",
-    "END OF DUMP",
-    "HHC",
-    "r ",
-    "quit",
-];
+const HEADINGS: &str =
+    "JOB |COMPLETION CODE|NUCLEUS|REGS |FLTS |FLTR |P/P |SP |LOAD MODULE |CSECT |\
+    TRACE |PAGE |END OF DUMP|HHC|r |quit";
 
 /// How many gaps a note lists.
 const GAPS_LISTED: usize = 8;
 
-/// How much of a line is shown after the character that is refused, and the last column of one.
+/// How much of a line is shown after the character that is refused, and of any line.
 const SHOWN_AFTER: usize = 20;
 
-const LAST_COLUMN: usize = 240;
+const MOST_SHOWN: usize = 240;
 
 /// An image that a dump gives.
 #[derive(Drop)]
@@ -133,18 +118,12 @@ fn refusal(
     out.push_str(": ")?;
     out.push_str(why)?;
     out.push_str("\nfound ")?;
-    if column > LAST_COLUMN {
-        push_shown(&mut out, line, SHOWN)?;
-        out.push('\n')?;
-        return Ok(out);
-    }
-    push_shown(
-        &mut out,
-        line.trim_ascii_end(),
-        SHOWN.max(column.saturating_add(SHOWN_AFTER)),
-    )?;
+    let room = column.saturating_add(SHOWN_AFTER).clamp(SHOWN, MOST_SHOWN);
+    push_shown(&mut out, line.trim_ascii_end(), room)?;
     out.push('\n')?;
-    push_caret_at(&mut out, line, column)?;
+    if column < room {
+        push_caret_at(&mut out, line, column)?;
+    }
     Ok(out)
 }
 
@@ -156,8 +135,6 @@ struct Row {
     len: usize,
     /// The address after its last byte, or after its repeats.
     end: usize,
-    /// Whether no other line comes before the next.
-    is_next: bool,
 }
 
 /// What was read of a dump.
@@ -168,6 +145,8 @@ struct Reading {
     /// The last line with bytes, and room for the bytes of the next.
     row: Option<Row>,
     read: Vec<Spelled>,
+    /// Whether no other line has come since.
+    is_next: bool,
     /// The most bytes of a line.
     widest: usize,
     /// Whether the addresses are octal.
@@ -184,6 +163,7 @@ impl Reading {
             bytes: Vec::new(alloc),
             row: None,
             read: Vec::new(alloc),
+            is_next: false,
             widest: 0,
             is_octal: false,
             star: None,
@@ -223,24 +203,14 @@ impl Reading {
         }
         match (text, self.row) {
             ([b'*'], Some(_)) => self.star = Some(number),
-            ([] | [b';' | b'*', ..], _) => self.part(),
+            ([] | [b';' | b'*', ..], _) => self.is_next = false,
             (_, Some(_)) if !is_heading(text) => return Err(Fault::At(LINE, column)),
             _ => {
                 self.passed = self.passed.saturating_add(1);
-                self.part();
+                self.is_next = false;
             }
         }
         Ok(())
-    }
-
-    /// Parts the last line with bytes from the next.
-    fn part(&mut self) {
-        if let Some(row) = self.row {
-            self.row = Some(Row {
-                is_next: false,
-                ..row
-            });
-        }
     }
 
     /// Reads a line with an address.
@@ -271,8 +241,8 @@ impl Reading {
             start: address,
             len,
             end,
-            is_next: true,
         });
+        self.is_next = true;
         Ok(())
     }
 
@@ -287,7 +257,7 @@ impl Reading {
             Some(0) => true,
             _ if len == 0 => false,
             None => address <= row.start,
-            Some(_) if !row.is_next => true,
+            Some(_) if !self.is_next => true,
             Some(gap) if self.widest > 8 => {
                 row.len == self.widest && gap.checked_rem(row.len) == Some(0)
             }
@@ -383,7 +353,7 @@ impl Reading {
 /// Whether a line may come between the lines of a dump and tells no bytes.
 fn is_heading(text: &[u8]) -> bool {
     HEADINGS
-        .iter()
+        .split("|")
         .any(|heading| text.starts_with(heading.as_bytes()))
 }
 

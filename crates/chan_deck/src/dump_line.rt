@@ -4,6 +4,7 @@ use ccw_core::STORAGE_LIMIT;
 use std::alloc::AllocError;
 
 /// Why a line of a dump isn't read.
+#[derive(Clone, Copy)]
 pub(crate) enum Fault {
     /// This is said of it, and of the character at this column.
     At(&'static str, usize),
