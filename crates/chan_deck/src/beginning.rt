@@ -6,6 +6,10 @@ use ckd_core::{Kind, lookup};
 use std::alloc::{AllocError, Global};
 use std::fmt::Write as _;
 
+/// The note on an image that is text in hexadecimal, and no dump.
+const IS_TEXT: &str = "note: this is text in hexadecimal, but no line of it is an address with \
+    bytes; it is taken as raw bytes\n";
+
 /// The notes on an image that begins at this address: that it is text, and that its search loops
 /// fit if it begins at another address. An error means that an allocation failed.
 pub fn image_notes(alloc: Global, at: u32, image: &[u8]) -> Result<Vec<u8>, AllocError> {
@@ -38,7 +42,7 @@ fn text_note(image: &[u8]) -> &'static str {
         }
     }
     if digits {
-        return "note: this is text in hexadecimal; an image of storage is raw bytes\n";
+        return IS_TEXT;
     }
     ""
 }

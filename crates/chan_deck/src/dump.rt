@@ -233,8 +233,9 @@ impl Reading {
         let end = address.saturating_add(len);
         self.make_room(end, front.column)?;
         for at in 0..len {
-            let Spelled { byte, column } = self.read[at];
-            self.set(address.saturating_add(at), Some(byte), column)?;
+            if let Some(Spelled { byte, column }) = self.read.get(at).copied() {
+                self.set(address.saturating_add(at), Some(byte), column)?;
+            }
         }
         self.widest = self.widest.max(len);
         self.row = Some(Row {
@@ -396,11 +397,9 @@ fn push_gaps(out: &mut String, gaps: &[Area], zeros: u64) -> Result<(), AllocErr
         return Ok(());
     }
     push_count(out, "note: zeros in gaps of the dump: ", zeros)?;
-    let mut mark = ", at ";
-    for gap in gaps.iter().take(GAPS_LISTED) {
-        out.push_str(mark)?;
+    for (at, gap) in gaps.iter().take(GAPS_LISTED).enumerate() {
+        out.push_str(if at == 0 { ", at " } else { ", " })?;
         push_range(out, *gap)?;
-        mark = ", ";
     }
     out.push_str(if gaps.len() > GAPS_LISTED {
         ", ..\n"

@@ -90,15 +90,6 @@ fn split_digits(text: &[u8]) -> (&[u8], &[u8]) {
     (text, &[])
 }
 
-/// Whether bytes, a text column, a comment or nothing may begin so after an address and blanks.
-fn begins_bytes(rest: &[u8]) -> bool {
-    let is_apart = rest.first().is_some_and(|byte| byte.is_ascii_whitespace());
-    match rest.trim_ascii_start().first() {
-        Some(next) => MARKS.contains(next) || is_apart && digit_of(*next).is_some(),
-        None => true,
-    }
-}
-
 /// The address of a line, if the line has it in a form: three to eight digits, and not letters
 /// alone, which may be a word.
 fn front_by<'a>(line: &'a [u8], before: &str, after: &str, form: Form) -> Option<Front<'a>> {
@@ -109,13 +100,17 @@ fn front_by<'a>(line: &'a [u8], before: &str, after: &str, form: Form) -> Option
     if is_word || digits.len() < 3 || digits.len() > 8 {
         return None;
     }
+    let is_apart = match rest.first() {
+        Some(next) => next.is_ascii_whitespace() || MARKS.contains(next),
+        None => true,
+    };
     let from = line.len().saturating_sub(rest.len());
     let (from, until) = match form {
         Form::Display => {
             let from = from.saturating_add(KEY_COLUMNS);
             (from, line.len().min(from.saturating_add(DISPLAY_COLUMNS)))
         }
-        Form::Blank if !begins_bytes(rest) => return None,
+        Form::Blank if !is_apart => return None,
         _ => (from, line.len()),
     };
     Some(Front {

@@ -133,12 +133,13 @@ fn first_bytes<R: Read>(
     alloc: Global,
     input: &mut R,
 ) -> Result<(Vec<u8>, Option<io::Error>), AllocError> {
-    let mut block = [0u8; BLOCK];
-    match input.read(&mut block) {
-        Ok(count) => Ok((
-            Vec::from_slice(alloc, block.get(..count).unwrap_or(&[]))?,
-            None,
-        )),
+    let mut block = Vec::new(alloc);
+    block.resize(BLOCK, 0)?;
+    match input.read(block.as_mut_slice()) {
+        Ok(count) => {
+            block.truncate(count);
+            Ok((block, None))
+        }
         Err(error) => Ok((Vec::new(alloc), Some(error))),
     }
 }
