@@ -320,18 +320,25 @@ impl Reading {
 
     /// The image of what was read.
     fn finish(self, alloc: Global) -> Result<Dump, AllocError> {
-        let at = self.bytes.iter().position(|byte| byte.is_some());
-        let at = at.unwrap_or(0);
         let mut image = Vec::new(alloc);
         let mut gaps = Vec::new(alloc);
-        let mut zeros = 0u64;
-        for address in at..self.bytes.len() {
-            let byte = self.bytes[address];
-            if byte.is_none() {
-                add_gap(&mut gaps, address as u32)?;
-                zeros = zeros.saturating_add(1);
+        let (mut at, mut zeros) = (0, 0u64);
+        for address in 0..STORAGE_LIMIT {
+            match self.bytes.get(address as usize).copied() {
+                Some(Some(byte)) => {
+                    if image.is_empty() {
+                        at = address;
+                    }
+                    image.push(byte)?;
+                }
+                Some(None) if image.is_empty() => {}
+                Some(None) => {
+                    image.push(0)?;
+                    add_gap(&mut gaps, address)?;
+                    zeros = zeros.saturating_add(1);
+                }
+                None => break,
             }
-            image.push(byte.unwrap_or(0))?;
         }
         let mut notes = String::new(alloc);
         if self.passed > 0 {
@@ -343,11 +350,7 @@ impl Reading {
             notes.push('\n')?;
         }
         push_gaps(&mut notes, gaps.as_slice(), zeros)?;
-        Ok(Dump {
-            at: at as u32,
-            image,
-            notes,
-        })
+        Ok(Dump { at, image, notes })
     }
 }
 
