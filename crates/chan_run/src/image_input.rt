@@ -1,5 +1,7 @@
 //! What an image is read from: the bytes of an input as they come, or those that a dump tells.
 
+ghost use Rattle.std.specs.Prelude.{◌≡◌, false};
+
 use crate::failure::Failure;
 use crate::image_options::ImageOptions;
 use crate::input::{TEXT_LIMIT, read_input};
@@ -67,7 +69,7 @@ impl<R: Read> Read for ImageInput<R> {
 /// the exit status is given.
 ///
 /// A text is read to its end, and an input that is none not beyond its first bytes.
-pub fn take_image<R: Read, W: Write>(
+pub fn take_image<R: Read + Drop, W: Write>(
     alloc: Global,
     name: Option<&str>,
     options: ImageOptions,
@@ -106,14 +108,15 @@ pub fn take_image<R: Read, W: Write>(
 
 /// The options for a dump's image, which has its own address if no other is asked for.
 fn options_at(options: ImageOptions, is_placed: bool, at: u32) -> ImageOptions {
-    if is_placed || at >= STORAGE_LIMIT {
-        return options;
+    let mut options = options;
+    if !is_placed && at < STORAGE_LIMIT {
+        options.at = at;
     }
-    ImageOptions { at, ..options }
+    options
 }
 
 /// Reads the first bytes of an input, and if they are text, all of it.
-fn look_at<R: Read>(alloc: Global, input: R) -> Result<ImageInput<R>, Failure> {
+fn look_at<R: Read + Drop>(alloc: Global, input: R) -> Result<ImageInput<R>, Failure> {
     let mut input = input;
     let (front, error) = match first_bytes(alloc, &mut input) {
         Ok(read) => read,
@@ -145,7 +148,7 @@ fn first_bytes<R: Read>(
 }
 
 /// A text that begins so, to the end of its input.
-fn whole_text<R: Read>(alloc: Global, front: Vec<u8>, input: R) -> Result<Vec<u8>, Failure> {
+fn whole_text<R: Read + Drop>(alloc: Global, front: Vec<u8>, input: R) -> Result<Vec<u8>, Failure> {
     let mut text = front;
     let room = TEXT_LIMIT.saturating_sub(text.len());
     match read_input(alloc, room, &mut Watched::new(input)) {
