@@ -21,8 +21,8 @@ const STEP: &str = "the bytes above don't end here";
 
 const REPEAT: &str = "it isn't known what is repeated, or how often";
 
-/// What a line begins with that may come between the lines of a dump and tells no bytes: headings of
-/// an ABEND dump, and what a log of Hercules has.
+/// What a line begins with that may come between the lines of a dump and tells no bytes: headings
+/// of an ABEND dump, and what a log of Hercules has.
 const HEADINGS: &str =
     "JOB |COMPLETION CODE|NUCLEUS|REGS |FLTS |FLTR |P/P |SP |LOAD MODULE |CSECT |\
     TRACE |PAGE |END OF DUMP|HHC|r |quit";
@@ -74,7 +74,7 @@ pub fn read_dump(alloc: Global, text: &[u8]) -> Result<Option<Dump>, DumpError> 
         return Ok(None);
     }
     let mut reading = Reading::new(alloc);
-    if !reading.is_begun(text) {
+    if !reading.is_begun(text)? {
         return Ok(None);
     }
     let mut rest = text;
@@ -173,7 +173,7 @@ impl Reading {
 
     /// Whether a line of a text is an address with bytes. The first tells whether addresses are
     /// octal.
-    fn is_begun(&mut self, text: &[u8]) -> bool {
+    fn is_begun(&mut self, text: &[u8]) -> Result<bool, AllocError> {
         let mut rest = text;
         for _ in 0..text.len() {
             if rest.is_empty() {
@@ -181,14 +181,18 @@ impl Reading {
             }
             let (line, after) = split_line(rest);
             if let Some(front) = front_of(line) {
-                if front.read_bytes(line, &mut self.read).is_ok() && !self.read.is_empty() {
-                    self.is_octal = front.is_octal();
-                    return true;
+                match front.read_bytes(line, &mut self.read) {
+                    Ok(()) if !self.read.is_empty() => {
+                        self.is_octal = front.is_octal();
+                        return Ok(true);
+                    }
+                    Err(Fault::Memory) => return Err(AllocError),
+                    _ => {}
                 }
             }
             rest = after;
         }
-        false
+        Ok(false)
     }
 
     /// Reads a line.

@@ -15,9 +15,9 @@ ghost use Rattle.chan_run.specs.Outcome.{IsWriteFailure};
 use ccw_core::Watched;
 use chan_args::{Action, Explained, ImageRequest, Request, read_request};
 use chan_run::{
-    Failure, ImageInput, ImageOptions, Naming, OptionError, Outcome, Response, address_option, deliver,
-    ends_run, exit_status, explain_word, find_programs, greater_status, judge_deck, list_words,
-    make_deck, note_usual_device, options_of, report, report_all_with_of, report_file,
+    Failure, ImageInput, ImageOptions, Naming, OptionError, Outcome, Response, address_option,
+    deliver, ends_run, exit_status, explain_word, find_programs, greater_status, judge_deck,
+    list_words, make_deck, note_usual_device, options_of, report, report_all_with_of, report_file,
     report_grants, report_no_ccw, report_option, report_usage, respond_to_ccw, show, shown_word,
     take_image,
 };
