@@ -244,7 +244,6 @@ def check_texts(checks, program):
         ("digits in capitals, blanks and line ends", f"{digits[:9].upper()} \t\r\n00", IS_TEXT),
         ("one digit", "0", IS_TEXT),
         ("an address without bytes", "00000000:\n", IS_TEXT),
-        ("bytes in binary", "00000000: 00110001 00000000  1.\n", IS_TEXT),
         ("blanks", " \n\r\t", ""),
         ("a colon alone", ":", ""),
         ("words", "0123 no image\n", ""),

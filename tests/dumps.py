@@ -68,6 +68,7 @@ REFUSED_FORMS = [
     ("hexdump -x", SWAPPED),
     ("xxd -e", DIGIT),
     ("xxd -E", DIGIT),
+    ("xxd -b", DIGIT),
     ("od -v -Ad -tx1", STEP),
     ("od -v", STEP),
 ]
@@ -158,7 +159,7 @@ def check_hercules(checks, program, random):
         for at, (_, image) in enumerate(shown, 1):
             (room / f"{at}").write_bytes(image)
         (room / "configuration").write_text(CONFIGURATION)
-        (room / "commands").write_text("\n".join([*commands, "quit\n"]))
+        (room / "commands").write_text("\n".join([*commands, "pause 2", "quit\n"]))
         script = 'HERCULES_RC=commands exec "$@" < /dev/null'
         words = ["timeout", "60", "hercules", "-d", "-f", "configuration"]
         log = run_in_bash(script, *words, cwd=room).output
@@ -170,10 +171,9 @@ def check_hercules(checks, program, random):
         lines = "".join(re.findall("R:.*\n", part))
         checks.expect(f"{name} by Hercules", expected, both(program, lines.encode()))
         checks.expect(f"{name} by Hercules, placed", both(program, image), both(program, lines.encode(), "--at", "0"))
-        # what is said of loading, and the command, come before
-        part = part.partition("HHCIN900I")[0]
-        count = 3 + part.endswith("quit\n")
-        passed = f"note: lines without an address, passed over: {count}\n"
+        # two lines on loading and the command come before, and others after
+        part = f"{part[: part.index(lines)]}{lines}quit\nHHCIN900I Begin Hercules shutdown\n"
+        passed = "note: lines without an address, passed over: 5\n"
         expected = [ran._replace(error=passed + ran.error) for ran in expected]
         checks.expect(f"{name} in a log of Hercules", expected, both(program, part.encode()))
 
@@ -274,7 +274,7 @@ WRONG = [
     ("swapped words", "800 0700 0900\n", 1, SWAPPED, 4),
     ("swapped words later", "800 0700090040000006\n808 0700 0900 4000 0006\n", 2, SWAPPED, 4),
     ("an address that is too high", "800 07\n1000001 07\n", 2, HIGH, 0),
-    ("bytes past storage", "FFFFF8 0707070707070707 08\n", 1, HIGH, 0),
+    ("bytes past storage", "FFFFF8 0707070707070707 08\n", 1, HIGH, 24),
     ("a repeat past storage", "FFFFF0 07\n*\n1000001\n", 3, HIGH, 0),
     ("a repeat without an end", "800 07\n*\n", 2, REPEAT, 0),
     ("a repeat of half a line", "000 0102\n*\n005 03\n", 3, REPEAT, 0),
@@ -284,6 +284,7 @@ WRONG = [
     ("lines of half a line", "000800 01020304\nLINES 000804-000806 SAME AS ABOVE\n", 2, REPEAT, 0),
     ("lines of none", "LINES 000804-000806 SAME AS ABOVE\n800 07\n", 1, REPEAT, 0),
     ("a number before", "0x800 07\n800 O7\n801 07\n", 2, DIGIT, 4),
+    ("four bytes of the only line", "800 07000900 4O000006\n", 1, HALF, 13),
 ]
 
 
@@ -356,6 +357,7 @@ def check_others(checks, program, folder):
         ("short addresses", b"80 07\n88 08\n"),
         ("long addresses", b"000000800 07\n"),
         ("words", b"bad dead beef\nadd cafe\n"),
+        ("a number before words", b"2311 becomes\n1000 CCWs\n0190 2314 disk\n1969 a\n800 07 00 09 0"),
         ("a control character", b"800 07\n\x01"),
         ("a dump with a zero", b"800 07\n\0"),
     ]:

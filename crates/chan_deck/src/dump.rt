@@ -27,6 +27,9 @@ const HEADINGS: &str =
     "JOB |COMPLETION CODE|NUCLEUS|REGS |FLTS |FLTR |P/P |SP |LOAD MODULE |CSECT |\
     TRACE |PAGE |END OF DUMP|HHC|r |quit";
 
+/// How many bytes after an address tell that a line is one of a dump, though it can't be read.
+const BEGUN: usize = 4;
+
 /// How many gaps a note lists.
 const GAPS_LISTED: usize = 8;
 
@@ -171,8 +174,8 @@ impl Reading {
         }
     }
 
-    /// Whether a line of a text is an address with bytes. The first tells whether addresses are
-    /// octal.
+    /// Whether a line of a text is an address with bytes, or begins with an address and `BEGUN` bytes.
+    /// The first tells whether addresses are octal.
     fn is_begun(&mut self, text: &[u8]) -> Result<bool, AllocError> {
         let mut rest = text;
         for _ in 0..text.len() {
@@ -181,13 +184,14 @@ impl Reading {
             }
             let (line, after) = split_line(rest);
             if let Some(front) = front_of(line) {
-                match front.read_bytes(line, &mut self.read) {
-                    Ok(()) if !self.read.is_empty() => {
-                        self.is_octal = front.is_octal();
-                        return Ok(true);
-                    }
+                let fewest = match front.read_bytes(line, &mut self.read) {
+                    Ok(()) => 1,
+                    Err(Fault::At(..)) => BEGUN,
                     Err(Fault::Memory) => return Err(AllocError),
-                    _ => {}
+                };
+                if self.read.len() >= fewest {
+                    self.is_octal = front.is_octal();
+                    return Ok(true);
                 }
             }
             rest = after;
@@ -234,8 +238,6 @@ impl Reading {
         if len == 0 {
             return Ok(());
         }
-        let end = address.saturating_add(len);
-        self.make_room(end, front.column)?;
         for at in 0..len {
             if let Some(Spelled { byte, column }) = self.read.get(at).copied() {
                 self.set(address.saturating_add(at), Some(byte), column)?;
@@ -245,7 +247,7 @@ impl Reading {
         self.row = Some(Row {
             start: address,
             len,
-            end,
+            end: address.saturating_add(len),
         });
         self.is_next = true;
         Ok(())
@@ -270,19 +272,14 @@ impl Reading {
         }
     }
 
-    /// Makes room for bytes up to an address.
-    fn make_room(&mut self, end: usize, column: usize) -> Result<(), Fault> {
-        if end > STORAGE_LIMIT as usize {
-            return Err(Fault::At(HIGH, column));
-        }
-        if self.bytes.len() < end {
-            self.bytes.resize(end, None)?;
-        }
-        Ok(())
-    }
-
     /// Sets the byte at an address, where no other byte may be.
     fn set(&mut self, address: usize, byte: Option<u8>, column: usize) -> Result<(), Fault> {
+        if address >= STORAGE_LIMIT as usize {
+            return Err(Fault::At(HIGH, column));
+        }
+        if self.bytes.len() <= address {
+            self.bytes.resize(address.saturating_add(1), None)?;
+        }
         if let Some(place) = self.bytes.get_mut(address) {
             if place.is_some() && *place != byte {
                 return Err(Fault::At(DIFFERS, column));
@@ -311,7 +308,6 @@ impl Reading {
         if end < row.end || !is_end && len.checked_rem(row.len) != Some(0) {
             return Err(Fault::At(REPEAT, column));
         }
-        self.make_room(end, column)?;
         for address in row.end..end {
             let offset = address.saturating_sub(row.start).checked_rem(row.len);
             let repeated = row.start.saturating_add(offset.unwrap_or(0));
