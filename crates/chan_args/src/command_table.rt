@@ -155,8 +155,8 @@ With either, leave out mask, extents and areas:
 The exit status:
   0  the deck was written
   1  with --least: no job will do
-  2  a dump can't be read, the image is too long, or with --least too many places
-     are reachable
+  2  a dump can't be read, the image is too long, or with --least too many
+     places are reachable
   3  FILE can't be opened, reading or writing failed, or memory ran out
   4  the command line is wrong, or the image ends past --storage";
 

@@ -174,8 +174,8 @@ impl Reading {
         }
     }
 
-    /// Whether a line of a text is an address with bytes, or begins with an address and `BEGUN` bytes.
-    /// The first tells whether addresses are octal.
+    /// Whether a line of a text is an address with bytes, or begins with an address and `BEGUN`
+    /// bytes. The first tells whether addresses are octal.
     fn is_begun(&mut self, text: &[u8]) -> Result<bool, AllocError> {
         let mut rest = text;
         for _ in 0..text.len() {
