@@ -49,6 +49,7 @@ FORMS = [
     "od -tx1",
     "od -v -tx1z",
     "od -v -w8 -tx1",
+    "objdump -s -b binary -m s390",
 ]
 # forms that are refused at a line, why, and a word of the text that the caret is under
 DIGIT, HALF = "not a hexadecimal digit", "a byte has two digits"
@@ -91,6 +92,16 @@ def both(program, given, *words):
     return [run(program, *command, *words, given=given) for command in (OPEN, ["find", *DEVICE])]
 
 
+def dump_by(form, image):
+    """The dump of an image by a tool; `objdump` reads only files, and writes headings first."""
+    if not form.startswith("objdump"):
+        return run(*form.split(), given=image).output.encode()
+    with tempfile.NamedTemporaryFile() as file:
+        Path(file.name).write_bytes(image)
+        dump = run(*form.split(), file.name).output
+    return dump.partition("section .data:\n")[2].encode()
+
+
 def check_forms(checks, program, random):
     for name, image in images(random):
         expected = both(program, image)
@@ -101,7 +112,7 @@ def check_forms(checks, program, random):
                 continue
             if "-endian" in form and len(image) % 8:
                 continue
-            dump = run(*form.split(), given=image).output.encode()
+            dump = dump_by(form, image)
             checks.expect(f"{name} by {form}", expected, both(program, dump))
             # line ends, blanks and a byte-order mark as other systems have them
             dump = re.sub(rb"(?m)^(\w+:?) ", rb"\1\t", dump).replace(b"\n", b"\r\n")

@@ -38,7 +38,7 @@ pub(crate) struct Spelled {
 enum Form {
     /// The line is one of Hercules, which has the bytes in columns: `R:00000800:K:06=07000900 ..`.
     Display,
-    /// A colon comes after the address, and the text of the bytes may follow two blanks.
+    /// A colon comes after the address.
     Colon,
     /// Blanks come after the address. It may be octal, and words of two bytes may be swapped.
     Blank,
@@ -175,7 +175,7 @@ impl Front<'_> {
                     high = None;
                 }
                 (None, Some(_)) => return Err(Fault::At(HALF, column.saturating_sub(1))),
-                (None, None) if self.ends_at(&line[column..], bytes.as_slice()) => return Ok(()),
+                (None, None) if ends_before(&line[column..], bytes.as_slice()) => return Ok(()),
                 (None, None) if line[column].is_ascii_whitespace() => {}
                 (None, None) => return Err(Fault::At(DIGIT, column)),
             }
@@ -184,12 +184,6 @@ impl Front<'_> {
             Some(_) => Err(Fault::At(HALF, self.until.saturating_sub(1))),
             None => Ok(()),
         }
-    }
-
-    /// Whether the bytes of a line end before what is left of it.
-    fn ends_at(&self, rest: &[u8], bytes: &[Spelled]) -> bool {
-        let is_marked = rest.first().is_some_and(|byte| MARKS.contains(byte));
-        is_marked || self.form == Form::Colon && rest.starts_with(b"  ") && is_text(rest, bytes)
     }
 
     /// Whether the bytes may be swapped: they are in words of two, and more than two.
@@ -202,6 +196,12 @@ impl Front<'_> {
         }
         self.form == Form::Blank && bytes.len() > 2 && bytes.len() % 2 == 0
     }
+}
+
+/// Whether the bytes of a line end before what is left of it.
+fn ends_before(rest: &[u8], bytes: &[Spelled]) -> bool {
+    let is_marked = rest.first().is_some_and(|byte| MARKS.contains(byte));
+    is_marked || rest.starts_with(b"  ") && is_text(rest, bytes)
 }
 
 /// Whether what is left of a line is two blanks or more and then the text of its bytes, of which

@@ -1,4 +1,4 @@
-use Rattle.std.proofs.Common.{None, Some, [], refl, rules}
+use Rattle.std.proofs.Common.{None, Some, [], rules}
 use Rattle.chan_run.proofs.find.judged_line.Goals as goal
 
 pub returns-in-Ok : goal.returns-in-Ok
