@@ -388,6 +388,8 @@ def check_others(checks, program, folder):
     too_long = Ran(2, "", "chanv: image too long\n")
     ran = run_in_bash('yes "800 07" | "$@"', program, *OPEN)
     checks.expect("a dump without end", too_long, ran)
+    ran = run_in_bash('yes "800 07" | "$@"', program, *OPEN, "--storage", "1000")
+    checks.expect("a dump without end past storage", Ran(4, "", "chanv: image past storage\n"), ran)
 
 
 def check(checks, built):

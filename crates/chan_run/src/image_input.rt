@@ -3,6 +3,7 @@
 ghost use Rattle.std.specs.Prelude.{◌≡◌, false};
 
 use crate::failure::Failure;
+use crate::image::too_long;
 use crate::image_options::ImageOptions;
 use crate::input::{TEXT_LIMIT, read_input};
 use crate::name::named;
@@ -79,7 +80,7 @@ pub fn take_image<R: Read + Drop, W: Write>(
 ) -> Result<(ImageOptions, ImageInput<R>), u8>
     requires { errors.old.failed ≡ false }
 {
-    let image = match look_at(alloc, input) {
+    let image = match look_at(alloc, &options, input) {
         Ok(image) => image,
         Err(failure) => return Err(report(name, Outcome::Failed(failure), errors)),
     };
@@ -116,7 +117,11 @@ fn options_at(options: ImageOptions, is_placed: bool, at: u32) -> ImageOptions {
 }
 
 /// Reads the first bytes of an input, and if they are text, all of it.
-fn look_at<R: Read + Drop>(alloc: Global, input: R) -> Result<ImageInput<R>, Failure> {
+fn look_at<R: Read + Drop>(
+    alloc: Global,
+    options: &ImageOptions,
+    input: R,
+) -> Result<ImageInput<R>, Failure> {
     let mut input = input;
     let (front, error) = match first_bytes(alloc, &mut input) {
         Ok(read) => read,
@@ -128,7 +133,10 @@ fn look_at<R: Read + Drop>(alloc: Global, input: R) -> Result<ImageInput<R>, Fai
     if front.is_empty() {
         return Ok(ImageInput::of(front, None, None));
     }
-    Ok(ImageInput::of(whole_text(alloc, front, input)?, None, None))
+    match whole_text(alloc, front, input)? {
+        Some(text) => Ok(ImageInput::of(text, None, None)),
+        None => Err(too_long(options)),
+    }
 }
 
 /// The bytes of a first read of an input, or the error that it gave.
@@ -147,16 +155,20 @@ fn first_bytes<R: Read>(
     }
 }
 
-/// A text that begins so, to the end of its input.
-fn whole_text<R: Read + Drop>(alloc: Global, front: Vec<u8>, input: R) -> Result<Vec<u8>, Failure> {
+/// A text that begins so, to the end of its input; `None` if it is longer than any dump may be.
+fn whole_text<R: Read + Drop>(
+    alloc: Global,
+    front: Vec<u8>,
+    input: R,
+) -> Result<Option<Vec<u8>>, Failure> {
     let mut text = front;
     let room = TEXT_LIMIT.saturating_sub(text.len());
     match read_input(alloc, room, &mut Watched::new(input)) {
         Ok(Some(rest)) => match text.extend_from_slice(rest.as_slice()) {
-            Ok(()) => Ok(text),
+            Ok(()) => Ok(Some(text)),
             Err(AllocError) => Err(Failure::OutOfMemory),
         },
-        Ok(None) => Err(Failure::ImageTooLong),
+        Ok(None) => Ok(None),
         Err(failure) => Err(failure),
     }
 }
