@@ -62,6 +62,7 @@ DIFFERS = "another line has another byte at this address"
 REPEAT = "it isn't known what is repeated, or how often"
 LINE = "no address, no repeat and no comment"
 HIGH = "storage ends at FFFFFF"
+APART = "more than eight blanks before a byte, so others may be missing"
 REFUSED_FORMS = [
     ("od -Ax -x", SWAPPED),
     ("od -tx2", SWAPPED),
@@ -201,6 +202,7 @@ TYPED = [
         {0x800: "3100090040000005 0800080000000000 06000A0020000050"},
         "",
     ),
+    ("eight blanks", "000800        07000900        40000006\n", {0x800: "0700090040000006"}, ""),
     ("colons", "800: 07000900 40000006\n808:0300000000000001\n", {0x800: "0700090040000006 0300000000000001"}, ""),
     ("words of two bytes behind a colon", "800: 0700 0900 4000 0006", {0x800: "0700090040000006"}, ""),
     ("lower case", "00a0c 0c0a", {0xA0C: "0C0A"}, ""),
@@ -294,6 +296,8 @@ WRONG = [
     ("lines backwards", "000800 01020304\nLINES 000804-000800 SAME AS ABOVE\n", 2, REPEAT, 0),
     ("lines of half a line", "000800 01020304\nLINES 000804-000806 SAME AS ABOVE\n", 2, REPEAT, 0),
     ("lines of none", "LINES 000804-000806 SAME AS ABOVE\n800 07\n", 1, REPEAT, 0),
+    ("a missing word", "000800   07000900          20000010 *..*\n000810 07\n", 1, APART, 27),
+    ("missing words in front", "000804 07\n000820            07000900 *..*\n", 2, APART, 18),
     ("a number before", "0x800 07\n800 O7\n801 07\n", 2, DIGIT, 4),
     ("four bytes of the only line", "800 07000900 4O000006\n", 1, HALF, 13),
 ]

@@ -22,6 +22,8 @@ const DIGIT: &str = "not a hexadecimal digit";
 
 const HALF: &str = "a byte has two digits";
 
+const APART: &str = "more than eight blanks before a byte, so others may be missing";
+
 const OCTAL: &str = "not an octal digit, but addresses of seven digits are octal";
 
 pub(crate) const HIGH: &str = "storage ends at FFFFFF";
@@ -55,6 +57,9 @@ const FORMS: [(&'static str, &'static str, Form); 3] = [
 const KEY_COLUMNS: usize = 3;
 
 const DISPLAY_COLUMNS: usize = 36;
+
+/// How many blanks may come before a byte.
+const MOST_BLANKS: usize = 8;
 
 /// What a text column or a comment begins with.
 const MARKS: &[u8] = b"|*>;";
@@ -168,6 +173,9 @@ impl Front<'_> {
         let mut high = None;
         for column in self.from..self.until.min(line.len()) {
             match (digit_of(line[column]), high) {
+                (Some(_), None) if self.is_apart(column, bytes.last()) => {
+                    return Err(Fault::At(APART, column));
+                }
                 (Some(digit), None) => high = Some(digit),
                 (Some(digit), Some(first)) => {
                     let (byte, column) = (first << 4 | digit, column.saturating_sub(1));
@@ -184,6 +192,15 @@ impl Front<'_> {
             Some(_) => Err(Fault::At(HALF, self.until.saturating_sub(1))),
             None => Ok(()),
         }
+    }
+
+    /// Whether too many blanks come before a byte at a column, after the last byte or the address.
+    fn is_apart(&self, column: usize, last: Option<&Spelled>) -> bool {
+        let end = match last {
+            Some(last) => last.column.saturating_add(2),
+            None => self.from,
+        };
+        column.saturating_sub(end) > MOST_BLANKS
     }
 
     /// Whether the bytes may be swapped: they are in words of two, and more than two.
