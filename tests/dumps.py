@@ -59,6 +59,7 @@ SWAPPED = (
 )
 OCTAL = "not an octal digit, but addresses of seven digits are octal"
 DIFFERS = "another line has another byte at this address"
+AGAIN = "the repeat goes over bytes of another line"
 REPEAT = "it isn't known what is repeated, or how often"
 LINE = "no address, no repeat and no comment"
 HIGH = "storage ends at FFFFFF"
@@ -182,12 +183,13 @@ def check_hercules(checks, program, random):
         expected = both(program, image, *begins)
         lines = "".join(re.findall("R:.*\n", part))
         checks.expect(f"{name} by Hercules", expected, both(program, lines.encode()))
-        checks.expect(f"{name} by Hercules, placed", both(program, image), both(program, lines.encode(), "--at", "0"))
-        # two lines on loading and the command come before, and others after
-        part = f"{part[: part.index(lines)]}{lines}quit\nHHCIN900I Begin Hercules shutdown\n"
-        passed = "note: lines without an address, passed over: 5\n"
+        placed = both(program, lines.encode(), "--at", "0")
+        checks.expect(f"{name} by Hercules, placed", both(program, image), placed)
+        # the command comes before, and others and messages after
+        log = f"r {begins[1]}.8\n{lines}quit\nHHCIN900I Begin Hercules shutdown\n"
+        passed = "note: lines without an address, passed over: 3\n"
         expected = [ran._replace(error=passed + ran.error) for ran in expected]
-        checks.expect(f"{name} in a log of Hercules", expected, both(program, part.encode()))
+        checks.expect(f"{name} in a log of Hercules", expected, both(program, log.encode()))
 
 
 # typed texts: the bytes by their addresses, and what is said
@@ -203,8 +205,13 @@ TYPED = [
         "",
     ),
     ("eight blanks", "000800        07000900        40000006\n", {0x800: "0700090040000006"}, ""),
-    ("colons", "800: 07000900 40000006\n808:0300000000000001\n", {0x800: "0700090040000006 0300000000000001"}, ""),
-    ("words of two bytes behind a colon", "800: 0700 0900 4000 0006", {0x800: "0700090040000006"}, ""),
+    (
+        "colons",
+        "800: 07000900 40000006\n808:0300000000000001\n",
+        {0x800: "0700090040000006 0300000000000001"},
+        "",
+    ),
+    ("words of two bytes after a colon", "800: 0700 0900 4000", {0x800: "070009004000"}, ""),
     ("lower case", "00a0c 0c0a", {0xA0C: "0C0A"}, ""),
     ("one byte in a line", "100 01\n101 02\n102 03\n", {0x100: "010203"}, ""),
     (
@@ -238,8 +245,8 @@ TYPED = [
     ("no repeat", "000 0102\n*\n002 03\n", {0: "010203"}, ""),
     (
         "lines that are as above",
-        "LOAD MODULE X\n000800  01020304\nLINE 000804 SAME AS ABOVE\nLINES 000808-000810   SAME AS ABOVE\n"
-        "END OF DUMP\n",
+        "LOAD MODULE X\n000800  01020304\nLINE 000804 SAME AS ABOVE\n"
+        "LINES 000808-000810   SAME AS ABOVE\nEND OF DUMP\n",
         {0x800: "01020304" * 5},
         "note: lines without an address, passed over: 2\n",
     ),
@@ -261,7 +268,12 @@ TYPED = [
     ("seven digits with a colon", "0004000: 07 00\n", {0x4000: "0700"}, ""),
     ("an end", "000800 0700\n000802\n", {0x800: "0700"}, ""),
     ("the end of storage", "FFFFF9 00000000000007\n1000000\n", {0xFFFFFF: "07"}, ""),
-    ("no digits before", "a dump: be\nPAGE 1\n; here\n\n800 07\n", {0x800: "07"}, "note: lines without an address, passed over: 2\n"),
+    (
+        "lines without an address before",
+        "a dump: be\nPAGE 1\n; here\n\n800 07\n",
+        {0x800: "07"},
+        "note: lines without an address, passed over: 2\n",
+    ),
 ]
 
 # a text, the number of the line that is refused, why, and the column of the caret
@@ -276,7 +288,8 @@ WRONG = [
     ("a line without an address", "800 07\n  code 08\n", 2, LINE, 2),
     ("a prompt after the dump", "800 07\n$ \n", 2, LINE, 0),
     ("another byte", "800 0708\n900 09\n800 0709\n", 3, DIFFERS, 6),
-    ("another byte by a repeat", "802 09\n800 07\n*\n803\n", 4, DIFFERS, 0),
+    ("a repeat over a byte", "802 09\n800 07\n*\n803\n", 4, AGAIN, 0),
+    ("a repeat over itself", "800 07\n*\n803 09\n800 07\n*\n803 09\n", 6, AGAIN, 0),
     ("a step that is too short", "800 07080910\n802 09101112\n", 2, STEP, 0),
     ("a gap of one byte", "800 07 000900 40 0006\n808 08\n", 2, STEP, 0),
     ("a lost byte", f"000 {'11' * 16}\n010 {'22' * 15}\n020 {'33' * 16}\n", 3, STEP, 0),
@@ -342,23 +355,25 @@ def check_options(checks, program, folder):
     loop = taken_apart(text_of(SEARCH_LOOP))[1][0x800:0x818]
     path = folder / "typed"
     path.write_text("".join(f"{0x800 + at:06X} {loop[at : at + 8].hex()}\n" for at in (0, 8, 16)))
-    for words in ([], ["--at", "800"], ["--storage", "1000"], ["--at", "0"], ["--at", "900", "--storage", "1000"]):
-        raw = words if "--at" in words else ["--at", "800", *words]
-        checks.expect(f"a dump with {words}", both(program, loop, *raw), both(program, path.read_bytes(), *words))
-        named = run(program, *OPEN, *words, path)
-        checks.expect(f"a named dump with {words}", run(program, *OPEN, *raw, given=loop), named)
+    for words in ("", "--at 800", "--storage 1000", "--at 0", "--at 900 --storage 1000"):
+        words, placed = words.split(), words if "--at" in words else f"--at 800 {words}"
+        expected = both(program, loop, *placed.split())
+        seen = both(program, path.read_bytes(), *words)
+        checks.expect(f"a dump with {words}", expected, seen)
+        checks.expect(f"a named dump with {words}", expected[0], run(program, *OPEN, *words, path))
     past = both(program, path.read_bytes(), "--storage", "810")
     note = "note: the image begins at 000800 and has more than 10 bytes, but storage has 0000810\n"
     said = "chanv: image past storage\n"
     checks.expect("a dump past storage", [Ran(4, "", said + note), Ran(4, "", said)], past)
-    path.write_text("800 070\n")
     (folder / "wrong").write_text("800 07\n801 070\n")
     said = f"chanv: {folder / 'wrong'}: dump line 2: {HALF}\nfound 801 070\n            ^\n"
-    checks.expect("a named dump is refused", Ran(2, "", said), run(program, *OPEN, folder / "wrong"))
+    ran = run(program, *OPEN, folder / "wrong")
+    checks.expect("a named dump is refused", Ran(2, "", said), ran)
     ran = run_in_bash('exec "$@" 2> /dev/full', program, *OPEN, folder / "wrong")
     checks.expect("a refusal that can't be written", Ran(2), ran)
     text = b"800 07 00\n" * 10
-    checks.expect("little stack", run(program, *OPEN, given=text), run_in_bash('ulimit -s 40 && exec "$@"', program, *OPEN, given=text))
+    ran = run_in_bash('ulimit -s 40 && exec "$@"', program, *OPEN, given=text)
+    checks.expect("little stack", run(program, *OPEN, given=text), ran)
 
 
 def check_others(checks, program, folder):
@@ -372,7 +387,8 @@ def check_others(checks, program, folder):
         ("short addresses", b"80 07\n88 08\n"),
         ("long addresses", b"000000800 07\n"),
         ("words", b"bad dead beef\nadd cafe\n"),
-        ("a number before words", b"2311 becomes\n1000 CCWs\n0190 2314 disk\n1969 a\n800 07 00 09 0"),
+        ("numbers before words", b"2311 becomes\n1000 CCWs\n0190 2314 disk\n1969 a\n"),
+        ("three bytes and a half", b"800 07 00 09 0\n"),
         ("a control character", b"800 07\n\x01"),
         ("a dump with a zero", b"800 07\n\0"),
     ]:
@@ -383,17 +399,35 @@ def check_others(checks, program, folder):
     note = "note: this is a deck; chanv verify judges it\n"
     checks.expect("a deck", Ran(0, "", note), ran)
     dump = b"000800 0700090040000006\n000808 0300000000000001\n"
-    pieces = 'head -c 5 "$2" > head && tail -c +6 "$2" > tail && { cat head; sleep 0.2; cat tail; } | '
-    for name, text in [("dump", dump), ("image", b"801 0" + bytes(9000) + dump), ("text", b"words " * 9)]:
+    script = '{ head -c 5 "$2"; sleep 0.2; tail -c +6 "$2"; } | "$1" "${@:3}"'
+    image = b"801 0" + bytes(9000) + dump
+    for name, text in [("dump", dump), ("image", image), ("text", b"words " * 9)]:
         (folder / name).write_bytes(text)
-        script = pieces + '"$1" "${@:3}"'
-        ran = run_in_bash(script, program, folder / name, *OPEN, cwd=folder)
+        ran = run_in_bash(script, program, folder / name, *OPEN)
         checks.expect(f"a {name} in pieces", run(program, *OPEN, given=text), ran)
     too_long = Ran(2, "", "chanv: image too long\n")
     ran = run_in_bash('yes "800 07" | "$@"', program, *OPEN)
     checks.expect("a dump without end", too_long, ran)
     ran = run_in_bash('yes "800 07" | "$@"', program, *OPEN, "--storage", "1000")
     checks.expect("a dump without end past storage", Ran(4, "", "chanv: image past storage\n"), ran)
+
+
+def check_hostile(checks, program, folder):
+    """Texts of many megabytes take no more than seconds of a processor."""
+    most = 30_000_000
+    for name, text in [
+        ("blanks", b"800 07" + b" " * most),
+        ("blanks in words", b"800" + b"  20" * (most // 8) + b" " * (most // 2)),
+        ("a byte in a line", b"".join(b"%06X 07\n" % at for at in range(most // 10))),
+        ("repeats", b"FFF000 01\n" + b"000 01\n*\nFFF000\n" * (most // 20)),
+        ("repeats of one byte", b"000 01\n" + b"*\n000 01\n" * (most // 10)),
+        ("lines without an address", b"800 07\n" + b"r \n" * (most // 3)),
+        ("digits", b"800 " + b"07" * (most // 2)),
+        ("texts", b"800 07\n" + b"900  07 \n" * (most // 9)),
+    ]:
+        (folder / "hostile").write_bytes(text)
+        ran = run_in_bash('ulimit -t 10 && exec "$@"', program, *OPEN, folder / "hostile")
+        checks.expect_that(f"{name} of {most} bytes", ran.status in (0, 2), ran)
 
 
 def check(checks, built):
@@ -404,3 +438,4 @@ def check(checks, built):
     with tempfile.TemporaryDirectory() as folder:
         check_options(checks, program, Path(folder))
         check_others(checks, program, Path(folder))
+        check_hostile(checks, program, Path(folder))

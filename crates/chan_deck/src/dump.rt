@@ -17,6 +17,8 @@ const SWAPPED: &str =
 
 const DIFFERS: &str = "another line has another byte at this address";
 
+const AGAIN: &str = "the repeat goes over bytes of another line";
+
 const STEP: &str = "the bytes above don't end here";
 
 const REPEAT: &str = "it isn't known what is repeated, or how often";
@@ -309,6 +311,9 @@ impl Reading {
             return Err(Fault::At(REPEAT, column));
         }
         for address in row.end..end {
+            if let Some(Some(_)) = self.bytes.get(address) {
+                return Err(Fault::At(AGAIN, column));
+            }
             let offset = address.saturating_sub(row.start).checked_rem(row.len);
             let repeated = row.start.saturating_add(offset.unwrap_or(0));
             let byte = self.bytes.get(repeated).copied().unwrap_or(None);

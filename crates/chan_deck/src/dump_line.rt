@@ -58,6 +58,10 @@ const KEY_COLUMNS: usize = 3;
 
 const DISPLAY_COLUMNS: usize = 36;
 
+/// How long a text column without a mark may be, with the blanks before it. It bounds how often a
+/// long line is looked at.
+const LONGEST_TEXT: usize = 2_048;
+
 /// How many blanks may come before a byte.
 const MOST_BLANKS: usize = 8;
 
@@ -218,7 +222,8 @@ impl Front<'_> {
 /// Whether the bytes of a line end before what is left of it.
 fn ends_before(rest: &[u8], bytes: &[Spelled]) -> bool {
     let is_marked = rest.first().is_some_and(|byte| MARKS.contains(byte));
-    is_marked || rest.starts_with(b"  ") && is_text(rest, bytes)
+    let is_short = rest.len() <= LONGEST_TEXT && bytes.len() <= LONGEST_TEXT;
+    is_marked || is_short && rest.starts_with(b"  ") && is_text(rest, bytes)
 }
 
 /// Whether what is left of a line is two blanks or more and then the text of its bytes, of which
