@@ -54,7 +54,7 @@ def derived(found):
 # `main` or a test is given.
 FORMS = [
     (re.compile(r"#\[derive\(([\w, ]*)\)\]"), derived),
-    (re.compile(r"(?<=\w): Drop\b"), lambda found: ""),
+    (re.compile(r"(?<=\w)(?::| \+) Drop\b"), lambda found: ""),
     (
         re.compile(r"fn fmt<W: fmt::Write>\(&self, f: &mut fmt::Formatter<W>\)"),
         lambda found: "fn fmt(&self, f: &mut fmt::Formatter<'_>)",

@@ -29,7 +29,10 @@ from channel import CHAIN_COMMAND, CHAIN_DATA, COMMANDS, LOW_BITS, Ccw  # noqa: 
 
 SEED, IMAGES = 71, 300
 DEVICE = ["--device", "2314"]
-IS_TEXT = "note: this is text in hexadecimal; an image of storage is raw bytes\n"
+IS_TEXT = (
+    "note: this is text in hexadecimal, but no line of it is an address with bytes; it is taken as "
+    "raw bytes\n"
+)
 
 
 def ccw_of(word):
@@ -270,14 +273,6 @@ def check_decks(checks, program):
         checks.expect(f"deck {' '.join(words)}", (status, wanted), (ran.status, notes))
 
 
-def dump_of(image, mark, width, group, with_text):
-    """A dump with addresses, a mark after each, and so many bytes in a line and in a group."""
-    for at in range(0, len(image), width):
-        part = image[at : at + width]
-        text = "".join(chr(byte) if 0x20 <= byte < 0x7F else "." for byte in part)
-        yield f"{at:06x}{mark} {part.hex(' ', -group)}" + f"  {text}" * with_text + "\n"
-
-
 def check_texts(checks, program):
     image = taken_apart(text_of(SEARCH_LOOP))[1]
     digits = image.hex()
@@ -285,10 +280,7 @@ def check_texts(checks, program):
         ("digits", digits, IS_TEXT),
         ("digits in capitals, blanks and line ends", f"{digits[:9].upper()} \t\r\n00", IS_TEXT),
         ("one digit", "0", IS_TEXT),
-        ("a dump by xxd", "".join(dump_of(image, ":", 16, 2, True)), IS_TEXT),
-        ("a dump of 32 bytes in a line", "".join(dump_of(image, ":", 32, 4, True)), IS_TEXT),
-        ("a dump by od", "".join(dump_of(image, "", 16, 1, False)), IS_TEXT),
-        ("a dump without its text", "00000000: 3100 0900\n", IS_TEXT),
+        ("an address without bytes", "00000000:\n", IS_TEXT),
         ("blanks", " \n\r\t", ""),
         ("a colon alone", ":", ""),
         ("words", "0123 no image\n", ""),

@@ -34,6 +34,7 @@ because none of 000900-000904 is lent for fetching
 """
 SEEMS = f"note: the whole range is lent, but for storing\n{UNSEEN}\n"
 REFUSED = "chanv: deck line 1: header\n"
+HALF = "chanv: dump line 2: a byte has two digits\n"
 HINT = "found chanv deck 3\n                 ^\nexpected chanv deck 1, chanv deck 2\n"
 
 # the answers of `why` and of `why --of` differ in the path and in the lines `also`
@@ -68,6 +69,7 @@ def commands():
     """Words of the program, their input, and what they write."""
     deck, changing = SEARCH_LOOP.read_bytes(), CHANGES_ITSELF.read_bytes()
     image = (EXAMPLES / "core.bin").read_bytes()
+    lines = [f"{at:06X} {image[at : at + 64].hex()}\n" for at in range(0, len(image), 64)]
     listing = text_of(EXAMPLES / "search-loop.list")
     needed = text_of(EXAMPLES / "search-loop.needs").splitlines()
     least = "".join(f"{line}\n" for line in least_lines(text_of(SEARCH_LOOP), needed))
@@ -88,6 +90,7 @@ def commands():
         (["graph"], deck, text_of(EXAMPLES / "search-loop.dot")),
         (["needs"], deck, text_of(EXAMPLES / "search-loop.needs")),
         (["find", "--device", "2314"], image, FOUND),
+        (["find", "--device=2314"], "".join(lines).encode(), FOUND),
         (["deck", *OF_IMAGE], image, text_of(EXAMPLES / "changes-argument.deck")),
     ]
 
@@ -152,7 +155,8 @@ def advice_cases(chanv):
 
 
 def help_cases(chanv):
-    """`why` over a FILE where help follows, and `find` where search loops vote."""
+    """`why` over a FILE where help follows, `find` over a dump that is refused, and where search
+    loops vote."""
     text = f"{CHANGES_ITSELF}: {text_of(CHANGES_ITSELF.with_suffix('.why'))}"
     yield Case(
         name="chanv why, help",
@@ -160,6 +164,13 @@ def help_cases(chanv):
         expected=Ran(1, text, said_beside(CHANGES_ITSELF, "named")),
         complaints=(OUT_OF_MEMORY, f"chanv: {CHANGES_ITSELF}: out of memory\n"),
         may_answer=True,
+    )
+    yield Case(
+        name="chanv find, a dump that is refused",
+        words=[chanv, "find", "--device", "2314"],
+        expected=Ran(2, "", f"{HALF}found 801 070\n            ^\n"),
+        given=b"800 07\n801 070\n",
+        complaints=(OUT_OF_MEMORY,),
     )
     loops = core()[8:]
     yield Case(

@@ -147,8 +147,10 @@ const OF_DECK: &str = "Addresses, lengths, sizes and the mask are hexadecimal, w
 (900+10), or first and last byte (900-90F). You may repeat --extent, --fetch and
 --store.
 
-Storage ends with the image, filled with zeros to a multiple of 8, unless
---storage gives its size. If --at is wrong, so are the answers.
+The image is raw bytes, or a dump as text with an address before the bytes of
+each line, which places them; --at places it elsewhere. Storage ends with the
+image, filled with zeros to a multiple of 8, unless --storage gives its size. If
+--at is wrong, so are the answers.
 
 With --least the deck grants exactly what its program needs, and is judged yes.
 If no job will do, standard error explains the verdict on the job that grants
@@ -160,8 +162,8 @@ With either, leave out mask, extents and areas:
 The exit status:
   0  the deck was written
   1  with --least: no job will do
-  2  the image is longer than storage may be, or with --least too many places
-     are reachable
+  2  a dump can't be read, the image is too long, or with --least too many
+     places are reachable
   3  FILE can't be opened, reading or writing failed, or memory ran out
   4  the command line is wrong, or the image ends past --storage";
 
@@ -228,14 +230,14 @@ const IMAGE: Word = (
     "FILE",
     Given::Plain,
     "",
-    "an image of storage; standard input if FILE is - or left out",
+    "an image or a dump of storage; standard input if FILE is - or left out",
 );
 
 const IMAGES: Word = (
     "FILE",
     Given::Repeated,
     "",
-    "an image of storage; standard input if FILE is - or left out",
+    "an image or a dump of storage; standard input if FILE is - or left out",
 );
 
 /// The options of a deck that is made of an image, and the image.

@@ -17,6 +17,8 @@ pub struct ImageRequest<'a> {
     pub files: Vec<&'a str>,
     /// Whether no device is named, so that it is the usual one.
     pub is_usual_device: bool,
+    /// Whether the address of the image is given.
+    pub is_placed: bool,
 }
 
 /// The job that is asked for.
@@ -113,5 +115,6 @@ pub(crate) fn image_request<'a>(
         words: image_words(alloc, matches)?,
         files: texts_met(alloc, matches, "FILE")?,
         is_usual_device: text_met(matches, "device").is_none(),
+        is_placed: text_met(matches, "at").is_some(),
     })
 }

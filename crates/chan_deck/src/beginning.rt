@@ -6,6 +6,10 @@ use ckd_core::{Kind, lookup};
 use std::alloc::{AllocError, Global};
 use std::fmt::Write as _;
 
+/// The note on an image that is text in hexadecimal, and no dump.
+const IS_TEXT: &str = "note: this is text in hexadecimal, but no line of it is an address with \
+    bytes; it is taken as raw bytes\n";
+
 /// A search loop of an image, a search and a transfer back to it.
 #[derive(Clone, Copy, PartialEq, Eq, PartialOrd, Ord)]
 struct SearchLoop {
@@ -99,7 +103,7 @@ fn text_note(image: &[u8]) -> &'static str {
         }
     }
     if digits {
-        return "note: this is text in hexadecimal; an image of storage is raw bytes\n";
+        return IS_TEXT;
     }
     ""
 }

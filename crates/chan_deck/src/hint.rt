@@ -11,7 +11,7 @@ use std::alloc::{AllocError, Global};
 use std::fmt::Write as _;
 
 /// How many characters of a line are shown.
-const SHOWN: usize = 60;
+pub(crate) const SHOWN: usize = 60;
 
 /// The content of the lines before a line.
 #[derive(Clone, Copy)]
@@ -103,13 +103,13 @@ fn spot_behind(text: &[u8], count: u64) -> Spot<'_> {
 }
 
 /// The byte-order mark in UTF-8, which some editors write before a text.
-const BYTE_ORDER_MARK: &[u8] = b"\xEF\xBB\xBF";
+pub(crate) const BYTE_ORDER_MARK: &[u8] = b"\xEF\xBB\xBF";
 
-/// Adds the bytes of a line, as many as fit in `SHOWN` characters, and ` ..` if some don't: each as
+/// Adds the bytes of a line, as many as fit in so many characters, and ` ..` if some don't: each as
 /// itself if it is visible, otherwise as `\x` and two digits. A blank at the line's end isn't
 /// visible.
-fn push_shown(out: &mut String, line: &[u8]) -> Result<(), AllocError> {
-    let mut room = SHOWN;
+pub(crate) fn push_shown(out: &mut String, line: &[u8], most: usize) -> Result<(), AllocError> {
+    let mut room = most;
     for (at, byte) in line.iter().enumerate() {
         let width = width_at(line, at);
         if width > room {
@@ -137,7 +137,7 @@ fn width_at(line: &[u8], at: usize) -> usize {
 /// Adds the line that was found, or words for an empty line and for the end of the text.
 fn push_found(out: &mut String, spot: &Spot<'_>) -> Result<(), AllocError> {
     if !spot.found.is_empty() {
-        push_shown(out, spot.found)
+        push_shown(out, spot.found, SHOWN)
     } else if spot.is_whole {
         out.push_str("an empty line")
     } else {
@@ -346,9 +346,18 @@ fn push_caret(out: &mut String, spot: &Spot<'_>, cause: Cause) -> Result<(), All
     if spot.found.is_empty() || is_no_text(spot) {
         return Ok(());
     }
+    push_caret_at(out, spot.found, fitting(form, spot.found))
+}
+
+/// Adds a line with a caret under the character at a column of a line that was found.
+pub(crate) fn push_caret_at(
+    out: &mut String,
+    found: &[u8],
+    column: usize,
+) -> Result<(), AllocError> {
     let mut indent = 0usize;
-    for at in 0..fitting(form, spot.found) {
-        indent = indent.saturating_add(width_at(spot.found, at));
+    for at in 0..column {
+        indent = indent.saturating_add(width_at(found, at));
     }
     for _ in 0.."found ".len().saturating_add(indent) {
         out.push(' ')?;

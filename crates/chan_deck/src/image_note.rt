@@ -17,7 +17,7 @@ const HAS_NO_PROGRAM: &str =
 const HAS_NONE_THERE: &str = "note: no program found\n";
 
 /// Whether an image begins as a deck does.
-fn is_deck(image: &[u8]) -> bool
+pub(crate) fn is_deck(image: &[u8]) -> bool
     ensures { result ≡ notes.is_deck image.now }
 {
     image.starts_with(DECK_FRONT.as_bytes())

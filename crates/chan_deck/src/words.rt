@@ -271,7 +271,7 @@ pub const WORDS_IN_SHORT: [&'static str; 122] = [
     "job: a channel program before its start, with everything that it may use",
     "open job: the job that grants everything: mask C0, cylinders 0 to 202, and all of storage",
     "least job: the job that grants exactly what the program needs",
-    "image: the raw bytes of main storage; `chanv deck` turns them into a deck",
+    "image: main storage as raw bytes, or as a dump in text; `chanv deck` makes a deck of it",
     "argument: the bytes that a seek (bin, cylinder, head), a search or a Set File Mask takes",
     "cylinder: where a seek moves the arm, 0 to 202",
     "head: which of a cylinder's tracks is read or written",

@@ -90,7 +90,7 @@ fn filled(options: &ImageOptions, image: Vec<u8>, room: usize) -> Result<Vec<u8>
 }
 
 /// Why an image is refused for which there is no room.
-fn too_long(options: &ImageOptions) -> Failure
+pub(crate) fn too_long(options: &ImageOptions) -> Failure
     ensures { result ≡ (if is_some options.now.size then failures.ImagePastStorage
         else failures.ImageTooLong) }
 {

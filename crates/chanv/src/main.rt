@@ -15,11 +15,11 @@ ghost use Rattle.chan_run.specs.Outcome.{IsWriteFailure};
 use ccw_core::{Area, Watched};
 use chan_args::{Action, Explained, ImageRequest, Request, read_request};
 use chan_run::{
-    Failure, ImageOptions, Naming, OptionError, Outcome, Response, address_option, deliver,
-    ends_run, exit_status, explain_word, find_programs, greater_status, judge_deck, list_words,
-    make_deck, note_usual_device, options_of, range_option, report, report_all_with_of,
-    report_file, report_grants, report_many_ccws, report_no_ccw, report_option, report_usage, report_wide_with_range,
-    respond_to_ccw, show, shown_word,
+    Failure, ImageInput, ImageOptions, Naming, OptionError, Outcome, Response, address_option,
+    deliver, ends_run, exit_status, explain_word, find_programs, greater_status, judge_deck,
+    list_words, make_deck, note_usual_device, options_of, range_option, report, report_all_with_of,
+    report_file, report_grants, report_many_ccws, report_no_ccw, report_option, report_usage,
+    report_wide_with_range, respond_to_ccw, show, shown_word, take_image,
 };
 use std::alloc::AllocError;
 use std::env::{Env, FillError};
@@ -404,8 +404,8 @@ fn carry_out_request(
     request: &ImageRequest<'_>,
     finds: bool,
 ) -> u8 {
-    let options = match options_of(rt.alloc(), &request.words) {
-        Ok(options) => options,
+    match options_of(rt.alloc(), &request.words) {
+        Ok(_) => (),
         Err(OptionError::Wrong(fault)) => {
             return report_option(fault, &mut Watched::new(rt.stderr()));
         }
@@ -414,13 +414,13 @@ fn carry_out_request(
             None,
             Outcome::Failed(Failure::OutOfMemory),
         ),
-    };
+    }
     if request.is_usual_device {
         note_usual_device(&mut Watched::new(rt.stderr()));
     }
     match request.files.as_slice() {
-        [] | ["-"] => carry_out_over(rt, None, &options, finds, Input::Standard(rt.stdin())),
-        names => carry_out_over_each(rt, words, names, &options, finds),
+        [] | ["-"] => carry_out_over(rt, None, request, finds, Input::Standard(rt.stdin())),
+        names => carry_out_over_each(rt, words, names, request, finds),
     }
 }
 
@@ -430,7 +430,7 @@ fn carry_out_over_each(
     rt: &HostRuntime,
     words: &Words,
     names: &[&str],
-    options: &ImageOptions,
+    request: &ImageRequest<'_>,
     finds: bool,
 ) -> u8 {
     let mut greatest = 0;
@@ -442,7 +442,7 @@ fn carry_out_over_each(
                 if names.len() > 1 && !print_heading(rt, name) {
                     return exit_status(Outcome::Failed(Failure::WriteFailed));
                 }
-                carry_out_over(rt, Some(name), options, finds, input)
+                carry_out_over(rt, Some(name), request, finds, input)
             }
             Err(outcome) => report_on(rt, Some(name), outcome),
         };
@@ -464,18 +464,29 @@ fn print_heading(rt: &HostRuntime, name: &str) -> bool {
 fn carry_out_over(
     rt: &HostRuntime,
     name: Option<&str>,
-    options: &ImageOptions,
+    request: &ImageRequest<'_>,
     finds: bool,
     input: Input,
 ) -> u8 {
-    if finds {
-        return find_in(rt, name, options, input);
+    let mut errors = Watched::new(rt.stderr());
+    // the options were read before, so only memory can be refused
+    let Ok(options) = options_of(rt.alloc(), &request.words) else {
+        return report(name, Outcome::Failed(Failure::OutOfMemory), &mut errors);
+    };
+    match take_image(rt.alloc(), name, options, request.is_placed, input, &mut errors) {
+        Ok((options, image)) if finds => find_in(rt, name, &options, image),
+        Ok((options, image)) => make_deck_from(rt, name, &options, image),
+        Err(status) => status,
     }
-    make_deck_from(rt, name, options, input)
 }
 
 /// Finds the programs in an image that may have a name, and gives the exit status.
-fn find_in(rt: &HostRuntime, name: Option<&str>, options: &ImageOptions, input: Input) -> u8 {
+fn find_in(
+    rt: &HostRuntime,
+    name: Option<&str>,
+    options: &ImageOptions,
+    input: ImageInput<Input>,
+) -> u8 {
     let mut input = Watched::new(input);
     let mut output = Watched::new(rt.stdout());
     let mut errors = Watched::new(rt.stderr());
@@ -494,7 +505,7 @@ fn make_deck_from(
     rt: &HostRuntime,
     name: Option<&str>,
     options: &ImageOptions,
-    input: Input,
+    input: ImageInput<Input>,
 ) -> u8 {
     let mut input = Watched::new(input);
     let mut output = Watched::new(rt.stdout());

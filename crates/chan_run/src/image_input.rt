@@ -1,0 +1,174 @@
+//! What an image is read from: the bytes of an input as they come, or those that a dump tells.
+
+ghost use Rattle.std.specs.Prelude.{◌≡◌, false};
+
+use crate::failure::Failure;
+use crate::image::too_long;
+use crate::image_options::ImageOptions;
+use crate::input::{TEXT_LIMIT, read_input};
+use crate::name::named;
+use crate::outcome::{Outcome, report};
+use crate::texts::{write_bytes, write_texts};
+use ccw_core::{STORAGE_LIMIT, Watched};
+use chan_deck::{DumpError, is_text, read_dump};
+use std::alloc::{AllocError, Global};
+use std::io;
+use std::io::{Read, Write};
+
+/// How many bytes are looked at first.
+const BLOCK: usize = 8_192;
+
+/// The exit status if a line of a dump isn't read.
+const REFUSED: u8 = 2;
+
+/// What an image is read from.
+#[derive(Drop)]
+pub struct ImageInput<R> {
+    /// The first bytes of the image, and how many of them were read from here.
+    front: Vec<u8>,
+    given: usize,
+    /// What a read of the input gave in place of them.
+    error: Option<io::Error>,
+    /// What has the bytes after them, if more may come.
+    rest: Option<R>,
+}
+
+impl<R> ImageInput<R> {
+    /// An image that begins so, and goes on with an input, if that wasn't read to its end.
+    fn of(front: Vec<u8>, error: Option<io::Error>, rest: Option<R>) -> ImageInput<R> {
+        ImageInput {
+            front,
+            given: 0,
+            error,
+            rest,
+        }
+    }
+}
+
+impl<R: Read> Read for ImageInput<R> {
+    fn read(&mut self, buf: &mut [u8]) -> io::Result<usize> {
+        if let Some(error) = self.error.take() {
+            return Err(error);
+        }
+        let front = self.front.as_slice().get(self.given..).unwrap_or(&[]);
+        if front.is_empty() {
+            return match &mut self.rest {
+                Some(rest) => rest.read(buf),
+                None => Ok(0),
+            };
+        }
+        let count = front.len().min(buf.len());
+        buf[..count].copy_from_slice(&front[..count]);
+        self.given = self.given.saturating_add(count);
+        Ok(count)
+    }
+}
+
+/// Looks at an input, and gives what the image is read from, with the options for it. If the input
+/// is a dump, these are its bytes, at its own address unless another one was asked for, and the
+/// writer gets the notes on it. Where there is no image, the writer gets the line that says so, and
+/// the exit status is given.
+///
+/// A text is read to its end, and an input that is none not beyond its first bytes.
+pub fn take_image<R: Read + Drop, W: Write>(
+    alloc: Global,
+    name: Option<&str>,
+    options: ImageOptions,
+    is_placed: bool,
+    input: R,
+    errors: &mut Watched<W>,
+) -> Result<(ImageOptions, ImageInput<R>), u8>
+    requires { errors.old.failed ≡ false }
+{
+    let image = match look_at(alloc, &options, input) {
+        Ok(image) => image,
+        Err(failure) => return Err(report(name, Outcome::Failed(failure), errors)),
+    };
+    if image.rest.is_some() {
+        return Ok((options, image));
+    }
+    match read_dump(alloc, image.front.as_slice()) {
+        Ok(None) => Ok((options, image)),
+        Ok(Some(dump)) => {
+            let _ = write_bytes(dump.notes.as_bytes(), errors);
+            Ok((
+                options_at(options, is_placed, dump.at),
+                ImageInput::of(dump.image, None, None),
+            ))
+        }
+        Err(DumpError::Refused(text)) => {
+            let (name, mark) = named(name, true);
+            let _ = write_texts(&["chanv: ", name, mark, text.as_str()], errors);
+            Err(REFUSED)
+        }
+        Err(DumpError::Memory) => {
+            Err(report(name, Outcome::Failed(Failure::OutOfMemory), errors))
+        }
+    }
+}
+
+/// The options for a dump's image, which has its own address if no other is asked for.
+fn options_at(options: ImageOptions, is_placed: bool, at: u32) -> ImageOptions {
+    let mut options = options;
+    if !is_placed && at < STORAGE_LIMIT {
+        options.at = at;
+    }
+    options
+}
+
+/// Reads the first bytes of an input, and if they are text, all of it.
+fn look_at<R: Read + Drop>(
+    alloc: Global,
+    options: &ImageOptions,
+    input: R,
+) -> Result<ImageInput<R>, Failure> {
+    let mut input = input;
+    let (front, error) = match first_bytes(alloc, &mut input) {
+        Ok(read) => read,
+        Err(AllocError) => return Err(Failure::OutOfMemory),
+    };
+    if error.is_some() || !is_text(front.as_slice()) {
+        return Ok(ImageInput::of(front, error, Some(input)));
+    }
+    if front.is_empty() {
+        return Ok(ImageInput::of(front, None, None));
+    }
+    match whole_text(alloc, front, input)? {
+        Some(text) => Ok(ImageInput::of(text, None, None)),
+        None => Err(too_long(options)),
+    }
+}
+
+/// The bytes of a first read of an input, or the error that it gave.
+fn first_bytes<R: Read>(
+    alloc: Global,
+    input: &mut R,
+) -> Result<(Vec<u8>, Option<io::Error>), AllocError> {
+    let mut block = Vec::new(alloc);
+    block.resize(BLOCK, 0)?;
+    match input.read(block.as_mut_slice()) {
+        Ok(count) => {
+            block.truncate(count);
+            Ok((block, None))
+        }
+        Err(error) => Ok((Vec::new(alloc), Some(error))),
+    }
+}
+
+/// A text that begins so, to the end of its input; `None` if it is longer than any dump may be.
+fn whole_text<R: Read + Drop>(
+    alloc: Global,
+    front: Vec<u8>,
+    input: R,
+) -> Result<Option<Vec<u8>>, Failure> {
+    let mut text = front;
+    let room = TEXT_LIMIT.saturating_sub(text.len());
+    match read_input(alloc, room, &mut Watched::new(input)) {
+        Ok(Some(rest)) => match text.extend_from_slice(rest.as_slice()) {
+            Ok(()) => Ok(Some(text)),
+            Err(AllocError) => Err(Failure::OutOfMemory),
+        },
+        Ok(None) => Ok(None),
+        Err(failure) => Err(failure),
+    }
+}
