@@ -364,7 +364,7 @@ def check_options(checks, program, folder):
     past = both(program, path.read_bytes(), "--storage", "810")
     note = "note: the image begins at 000800 and has more than 10 bytes, but storage has 0000810\n"
     said = "chanv: image past storage\n"
-    checks.expect("a dump past storage", [Ran(4, "", said + note), Ran(4, "", said)], past)
+    checks.expect("a dump past storage", [Ran(4, "", said + note)] * 2, past)
     (folder / "wrong").write_text("800 07\n801 070\n")
     said = f"chanv: {folder / 'wrong'}: dump line 2: {HALF}\nfound 801 070\n            ^\n"
     ran = run(program, *OPEN, folder / "wrong")

@@ -61,8 +61,7 @@ pub use crate::named_ccw::respond_to_ccw;
 pub use crate::one_ccw::{ShowError, show};
 pub use crate::option_fault::{
     report_all_with_of, report_file, report_grants, report_many_ccws, report_no_ccw, report_option,
-    report_usage,
-    report_wide_with_range,
+    report_usage, report_wide_with_range,
 };
 pub use crate::option_values::{address_option, options_of, range_option};
 pub use crate::outcome::{Outcome, ends_run, exit_status, greater_status, report};

@@ -473,7 +473,14 @@ fn carry_out_over(
     let Ok(options) = options_of(rt.alloc(), &request.words) else {
         return report(name, Outcome::Failed(Failure::OutOfMemory), &mut errors);
     };
-    match take_image(rt.alloc(), name, options, request.is_placed, input, &mut errors) {
+    match take_image(
+        rt.alloc(),
+        name,
+        options,
+        request.is_placed,
+        input,
+        &mut errors,
+    ) {
         Ok((options, image)) if finds => find_in(rt, name, &options, image),
         Ok((options, image)) => make_deck_from(rt, name, &options, image),
         Err(status) => status,
