@@ -54,6 +54,10 @@ LARGE = ["places", "loops", "chain", "ring", "comb", "offends"]
 # the start in an image that isn't of a job
 START = 0x800
 
+# the crates whose structs and calls are C's, and a file that copies only what the library made
+OF_C = ["chan_needs", "chanv_c"]
+WRITES_ONLY = ["writing.rt"]
+
 # the function that the script makes of `main`
 BEGUN = "begun"
 
@@ -195,6 +199,18 @@ def check_sources(checks, strip):
         checks.expect(f"functions in other lines of {short(path)}", [], moved)
 
 
+def check_of_c(checks, strip):
+    """No call of C takes a slice, no struct of C has a slice, and what may be written meanwhile is
+    copied by the loads of kit/."""
+    for path in sorted(it for crate in OF_C for it in (ROOT / "crates" / crate).glob("src/*.rt")):
+        text = strip.strip(text_of(path))
+        seen = re.findall(r'extern "C" fn [^{]*|#\[repr\(C\)\][^}]*', text)
+        slices = [it for it in seen if re.search(r"&[^,\n]*\[", it)]
+        checks.expect(f"slices that C hands to {short(path)}", [], slices)
+        plain = [] if path.name in WRITES_ONLY else re.findall(r".*copy_from_slice.*", text)
+        checks.expect(f"plain copies in {short(path)}", [], plain)
+
+
 def check_packages(checks, strip):
     """Where nothing is installed the script names what the workspace and its shims use, and README
     the compiler."""
@@ -265,7 +281,7 @@ def check(checks, built):
         return
     count = int(os.environ.get("RUSTC_JOBS") or 0)
     plain = program()
-    for part in (check_sources, check_packages, check_rewriting):
+    for part in (check_sources, check_of_c, check_packages, check_rewriting):
         part(checks, stripping())
     check_unit_tests(checks)
     with tempfile.TemporaryDirectory() as room:

@@ -265,7 +265,8 @@ def _found() -> str:
 
 def _version_of(library: CDLL) -> str:
     packed = library.chanv_version()
-    return f"{packed >> 16}.{packed >> 8 & 255}.{packed & 255}"
+    # the highest bit says that nothing of the library is proved
+    return f"{packed >> 16 & 0x7FFF}.{packed >> 8 & 255}.{packed & 255}"
 
 
 def _load() -> CDLL:
