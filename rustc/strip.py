@@ -13,6 +13,7 @@ Debian that are missing here.
 """
 
 import argparse
+import os
 import re
 import shutil
 import subprocess
@@ -230,11 +231,18 @@ def source_of(given):
     """The folder of Rust's crates, or None for crates.io."""
     if given:
         return None if given == "crates.io" else Path(given).absolute()
-    names = lacking(DEBIAN)
-    if names:
-        about = f"{DEBIAN} lacks {', '.join(names)}, so the crates come from crates.io"
-        print(f"rustc/strip.py: {about}; {install()}", file=sys.stderr)
-    return None if names else DEBIAN
+    return None if lacking(DEBIAN) else DEBIAN
+
+
+def fetch(folder):
+    """Has cargo load the crates from crates.io, and ends at once if it can't."""
+    at_once = {**os.environ, "CARGO_NET_RETRY": "0"}
+    words = ["cargo", "fetch", "--quiet"]
+    ran = subprocess.run(words, cwd=folder, env=at_once, capture_output=True, text=True)
+    if ran.returncode != 0:
+        why = ran.stderr.strip().rpartition("\n")[2].strip()
+        about = f"{DEBIAN} lacks {', '.join(lacking(DEBIAN))}, and no crates come from crates.io"
+        sys.exit(f"rustc/strip.py: {about}: {why}\n{install()}")
 
 
 def write(path, text):
@@ -276,13 +284,16 @@ def main():
         return
     if fault := fault_of_cargo():
         sys.exit(f"rustc/strip.py: {fault}; {install()}")
-    write_source(given.to, source_of(given.crates))
+    source = source_of(given.crates)
+    write_source(given.to, source)
     for path in [HERE / "Cargo.toml", *HERE.glob("kit/**/*.*"), *HERE.glob("shims/**/*.*")]:
         write(given.to / path.relative_to(HERE), path.read_text())
     rows = [*crates()]
     own = {name for name, _, _ in rows}
     for name, words, needs in rows:
         write_crate(given.to, name, words, needs, own)
+    if source is None:
+        fetch(given.to)
 
 
 if __name__ == "__main__":

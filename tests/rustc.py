@@ -23,7 +23,7 @@ from pathlib import Path
 from random import Random
 
 from answers import make_inputs
-from building import ROOT, short, version
+from building import ROOT, short
 from cargo import CHECKED, cargo, missing, program, stripping, workspace
 from command_lines import runs
 from examples import EXAMPLES, FOLDERS, SEARCH_LOOP, TEXTS, decks_of
@@ -32,6 +32,7 @@ from model import SEED, deck_of, jobs_of
 from refused_decks import refused
 from refused_memory import advice_cases, command_cases
 from refusing import Growths
+from rows import without_clap
 from running import Ran, run, run_in_bash, text_of
 from speed import decks_of_bench
 
@@ -156,15 +157,10 @@ def check_words(checks, programs):
 def check_command_lines(checks, programs, folder):
     """The words of a usage fault are clap's, except where a file is named in place of a command."""
     make_inputs(folder)
-    for words, given, parts in runs():
+    for words, given, _ in runs():
         file = folder / given
         how = {"given": file if file.is_file() else b"", "cwd": folder}
-        both = [run(it, *words, **how) for it in programs]
-        if both[0].output == f"chanv {version()}\n":
-            both[0] = Ran(0, f"chanv {version()} (not proved)\n")
-        said = parts[0].error
-        if said.startswith("error: ") and "isn't a command" not in said:
-            both = [ran._replace(error=ran.error.partition(" ")[0]) for ran in both]
+        both = without_clap(*(run(it, *words, **how) for it in programs))
         checks.expect(f"{words} < {given}", *both)
 
 

@@ -282,7 +282,7 @@ def _load() -> CDLL:
         version = _version_of(library)
     except AttributeError as error:
         raise WrongLibrary(f"{path} isn't chanv's library: {error}") from error
-    if version.rpartition(".")[0] != VERSION.rpartition(".")[0]:
+    if version.split(".")[:2] != VERSION.split(".")[:2]:
         raise WrongLibrary(f"{path} is version {version}, and this package needs {VERSION}")
     return library
 
