@@ -26,7 +26,7 @@ LIBRARIES = ccw_core ckd_core chan_args chan_areas chan_walk chan_needs chan_why
 DECK ?= examples/changes-argument.deck
 
 .PHONY: run libraries $(LIBRARIES) test audit proofs mutants unit_tests lib link install uninstall
-.PHONY: try rustc install-rustc coq table can_prove can_link can_test can_coq can_rustc
+.PHONY: try rustc install-rustc dist coq table can_prove can_link can_test can_coq can_rustc
 
 run: libraries
 	cd crates/chanv && rt run --jobs $(JOBS) < stdin
@@ -68,13 +68,23 @@ CC = $(CROSS)gcc
 export CARGO_TARGET_$(shell echo $(TARGET) | tr a-z- A-Z_)_LINKER = $(CC)
 endif
 
+# Groups of sections go, because each object that is linked with the library may have the same group.
 rustc: can_rustc
 	rustc/strip.py out/rustc
 	cd out/rustc && cargo build --quiet --profile $(PROFILE) -p chanv -p chanv_c \
 	  $(addprefix --target ,$(TARGET))
-	$(MAKE) --no-print-directory link OUT=$(NOT_PROVED) PARTS=$(BY_CARGO)/libchanv_c.a
+	$(MAKE) --no-print-directory link OUT=$(NOT_PROVED) \
+	  PARTS="--force-group-allocation $(BY_CARGO)/libchanv_c.a"
 	cp $(BY_CARGO)/chanv-rustc $(NOT_PROVED)/chanv
 	@echo "chanv and its library are in $(NOT_PROVED), and nothing of them is proved"
+
+# Packs what plain rustc compiles with the crates of Debian that it uses. In the folder of the archive
+# `cargo install --offline --path chanv` builds the program.
+DIST = out/chanv-$(VERSION)-not-proved.tar.gz
+dist:
+	mkdir -p out
+	rustc/dist.py $(VERSION) $(DIST)
+	@echo "$(DIST) is packed, and nothing of it is proved"
 
 # Proves the laws again in Coq, over definitions translated from specs/, and judges a deck by the
 # verifier that is proved there; coq/README.md says more.

@@ -187,7 +187,9 @@ def crates():
 
 def manifest(name, words, needs, own):
     """The Cargo.toml of a crate. The program is named so that it isn't taken for the proved one."""
-    lines = ["[package]", f'name = "{name}"', 'version = "0.0.0"', 'edition = "2024"']
+    [version] = re.findall(r"(?m)^VERSION = (.*)$", (ROOT / "Makefile").read_text())
+    lines = ["[package]", f'name = "{name}"', f'version = "{version}+not.proved"']
+    lines.append('edition = "2024"')
     lines += ["[lints]", "workspace = true"]
     if name == "chanv":
         lines += ["[[bin]]", 'name = "chanv-rustc"', 'path = "src/main.rs"']

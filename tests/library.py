@@ -20,7 +20,7 @@ from refusing import Case, Growths
 from running import Ran, run, text_of
 
 # the programs whose calls get too little room, foreign rows or threads run under the sanitizers
-LINED = ("edges", "needs", "memory", "threads")
+LINED = ("edges", "needs", "memory", "threads", "far")
 TESTS = ("one_call", "bytes", *LINED)
 SOURCES = [EXAMPLES / "c/ask.c", *[HERE / f"c/{name}.c" for name in TESTS]]
 MAY_ASK_FOR = {"memcpy", "memmove", "memset", "malloc", "realloc", "free"}
