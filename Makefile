@@ -26,7 +26,7 @@ LIBRARIES = ccw_core ckd_core chan_args chan_areas chan_walk chan_needs chan_why
 DECK ?= examples/changes-argument.deck
 
 .PHONY: run libraries $(LIBRARIES) test audit proofs mutants unit_tests lib link install uninstall
-.PHONY: try rustc install-rustc dist coq table can_prove can_link can_test can_coq can_rustc
+.PHONY: try rustc install-rustc dist fuzz coq table can_prove can_link can_test can_coq can_rustc
 
 run: libraries
 	cd crates/chanv && rt run --jobs $(JOBS) < stdin
@@ -102,6 +102,11 @@ test: can_test libraries
 # In a fresh checkout `make` and `make lib` then find everything built.
 audit: can_test
 	tests/audit.py
+
+# libFuzzer, so many seconds over each of decks, images and calls.
+SECONDS = 60
+fuzz:
+	tests/fuzz.py --seconds $(SECONDS)
 
 mutants: run lib
 	tests/mutants.py --built
