@@ -79,7 +79,7 @@ def fuzz(seconds):
     """Has libFuzzer look for inputs that cover more, or that an oracle refuses."""
     if shutil.which("clang") is None:
         raise CannotRun("no clang")
-    there = cargo.MADE / "fuzzed"
+    there = cargo.MADE / "target/covered"
     wrapped = {**os.environ, "RUSTC_WRAPPER": str(FOLDER / "covered.sh")}
     built("--target", cargo.TARGET, "--target-dir", there, env=wrapped)
     for harness in HARNESSES:
