@@ -14,10 +14,12 @@ import os
 import shlex
 import shutil
 import tempfile
+from concurrent.futures import ThreadPoolExecutor
 from pathlib import Path
 
 import rustc
 from building import FLAGS, HERE, NOT_PROVED, ROOT, must_succeed
+from expecting import Checks
 from library import LINED, check_lines
 from running import run
 
@@ -29,7 +31,8 @@ MACHINES = [
     ("i686", "/usr/i686-linux-gnu/lib/ld-linux.so.2 --library-path /usr/i686-linux-gnu/lib --argv0"),
 ]
 IN_C = [*LINED, "bytes"]
-JOBS = 30
+# random jobs for each machine
+JOBS = 20
 
 
 class Machine:
@@ -82,15 +85,26 @@ def check_library(checks, folder, machine):
         check_lines(checks, folder, name)
 
 
+def checks_of(machine, proved):
+    checks = Checks(f"architectures, {machine.name}")
+    with tempfile.TemporaryDirectory() as room:
+        check_library(checks, Path(room), machine)
+        check_program(checks, Path(room), machine, proved)
+    return checks
+
+
 def check(checks, built):
     if why := rustc.missing():
         checks.skip("all of it", why)
         return
+    machines, proved = [], built.chanv()
     for machine in (Machine(*names) for names in MACHINES):
         if why := machine.lacks():
             checks.skip(machine.name, why)
-            continue
-        build(machine)
-        with tempfile.TemporaryDirectory() as room:
-            check_library(checks, Path(room), machine)
-            check_program(checks, Path(room), machine, built.chanv())
+        else:
+            build(machine)
+            machines.append(machine)
+    with ThreadPoolExecutor() as beside:
+        for done in beside.map(lambda machine: checks_of(machine, proved), machines):
+            checks.passed += done.passed
+            checks.failed += done.failed

@@ -26,7 +26,10 @@ def tools_in(folder):
     folder.mkdir()
     compiler = Path(run("rustc", "--print", "sysroot").output.strip()) / "bin"
     for tool in ("cargo", "rustc"):
-        (folder / tool).symlink_to(compiler / tool)
+        found = shutil.which(tool)
+        # rustup's own tools look into HOME
+        needs_home = run("env", "-i", f"HOME={folder}", found, "--version").status != 0
+        (folder / tool).symlink_to(compiler / tool if needs_home else found)
     for tool in TOOLS:
         (folder / tool).symlink_to(shutil.which(tool))
     return folder

@@ -237,7 +237,7 @@ def check_rewriting(checks, strip):
 
 def check_unit_tests(checks):
     sources = [text_of(path) for path in (ROOT / "crates/unit_tests/src").rglob("*.rt")]
-    ran = run("cargo", "test", *CHECKED, "-p", "unit_tests", cwd=workspace(), timeout=None)
+    ran = run("cargo", "test", "--lib", *CHECKED, "-p", "unit_tests", cwd=workspace(), timeout=None)
     checks.expect_that("the unit tests", ran.status == 0, ran)
     passed = sum(map(int, re.findall(r"test result: ok. (\d+) passed", ran.output)))
     checks.expect("how many unit tests", "".join(sources).count("#[test]"), passed)
