@@ -1,10 +1,10 @@
 #!/usr/bin/env python3
-"""Packs the stripped workspace with Rust's crates, so that cargo alone builds it, without a network.
+"""Packs the stripped workspace with Rust's crates, so that cargo alone builds it, off line.
 
     rustc/dist.py VERSION ARCHIVE
 
-The archive has the workspace that strip.py makes, in vendor/ the crates of Debian that it uses, with
-Debian's checksums, and a lock. The same sources give the same archive.
+The archive has the workspace that strip.py makes, in vendor/ the crates of Debian that it uses,
+with Debian's checksums, and a lock. The same sources give the same archive.
 """
 
 import gzip

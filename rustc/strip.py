@@ -51,8 +51,8 @@ def derived(found):
     return f"#[derive({', '.join(names)})]" if names else ""
 
 
-# The structs that C lays out and that have lists, what is inside of braces, and a list in a field or
-# a parameter.
+# The structs that C lays out and that have lists, what is inside of braces, and a list in a field
+# or a parameter.
 OF_C = "CBytes|CJob|NeedLists|Remembered"
 INSIDE = r"[^{}]*(?:\{%s\}[^{}]*)*"
 LIST = re.compile(r"&(?:'a )?(mut )?\[([\w<>'_]+)\]")

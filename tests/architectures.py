@@ -25,10 +25,11 @@ from running import run
 
 COMPILER = ROOT / "out/machines"
 # the machines, and what runs a program of each by the name that follows; x86-64 itself runs i686's
+OF_I686 = "/usr/i686-linux-gnu/lib"
 MACHINES = [
     ("s390x", "qemu-s390x-static -L /usr/s390x-linux-gnu -0"),
     ("aarch64", "qemu-aarch64-static -L /usr/aarch64-linux-gnu -0"),
-    ("i686", "/usr/i686-linux-gnu/lib/ld-linux.so.2 --library-path /usr/i686-linux-gnu/lib --argv0"),
+    ("i686", f"{OF_I686}/ld-linux.so.2 --library-path {OF_I686} --argv0"),
 ]
 IN_C = [*LINED, "bytes"]
 # random jobs for each machine

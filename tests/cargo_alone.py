@@ -41,8 +41,9 @@ def install(room):
     must_succeed("tar", "-xzf", room / "packed.tar.gz", "-C", room)
     home, path = room / "home", tools_in(room / "tools")
     home.mkdir()
-    alone = ["env", "-i", f"HOME={home}", f"PATH={path}", "cargo", "install", "--offline", "--quiet"]
-    ran = run(*alone, "--path", "chanv", cwd=room / NAME, timeout=None)
+    alone = ["env", "-i", f"HOME={home}", f"PATH={path}"]
+    words = ["cargo", "install", "--offline", "--quiet", "--path", "chanv"]
+    ran = run(*alone, *words, cwd=room / NAME, timeout=None)
     return ran, home / ".cargo/bin/chanv-rustc"
 
 

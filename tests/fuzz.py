@@ -46,7 +46,8 @@ def linked(made, harness, archives, compiler, *flags):
     words = [*compiler, *flags, f"-DOVER={over}", "-o", made, FOLDER / "entry.c"]
     if asks_library:
         words += [f"-I{ROOT / 'crates/chanv_c/include'}", FOLDER / "calls.c", ROOT / "c/chanv.c"]
-    must_succeed(*words, archives / f"lib{'chanv_c' if asks_library else 'chan_fuzz'}.a", "-pthread")
+    archive = "libchanv_c.a" if asks_library else "libchan_fuzz.a"
+    must_succeed(*words, archives / archive, "-pthread")
     return made
 
 
