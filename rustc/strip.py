@@ -243,8 +243,7 @@ def fetch(folder):
     ran = subprocess.run(words, cwd=folder, env=at_once, capture_output=True, text=True)
     if ran.returncode != 0:
         why = ran.stderr.strip().rpartition("\n")[2].strip()
-        about = f"{DEBIAN} lacks {', '.join(lacking(DEBIAN))}, and no crates come from crates.io"
-        sys.exit(f"rustc/strip.py: {about}: {why}\n{install()}")
+        sys.exit(f"rustc/strip.py: no crates come from crates.io: {why}\n{install()}")
 
 
 def write(path, text):

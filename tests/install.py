@@ -5,9 +5,10 @@ show the calls of the header, and nothing else; the example of docs/EMBEDDING.md
 pkg-config says, with either library; each link of the installed pages leads to an installed file,
 and so does each page that the manual and the header name; each file of a stage has its mode, and
 nothing is written beside the stage; and `make uninstall` takes away all that was put there. No
-prefix is outside the test's own folder. The commands and the Python of docs/EMBEDDING.md do what
-the page shows. What asks pkg-config is left out, by its name, where there is none. `make try` hands
-its deck to `rt`, in whose place a script stands.
+prefix is outside the test's own folder. What `make rustc` built is installed by the target
+`install-rustc`, and says that it isn't proved. The commands and the Python of docs/EMBEDDING.md do
+what the page shows. What asks pkg-config is left out, by its name, where there is none. `make try`
+hands its deck to `rt`, in whose place a script stands.
 """
 
 import os

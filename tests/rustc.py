@@ -17,6 +17,7 @@ import os
 import re
 import shlex
 import subprocess
+import sys
 import tempfile
 from concurrent.futures import ThreadPoolExecutor
 from pathlib import Path
@@ -58,6 +59,16 @@ START = 0x800
 # the crates whose structs and calls are C's, and a file that copies only what the library made
 OF_C = ["chan_needs", "chanv_c"]
 WRITES_ONLY = ["writing.rt"]
+
+# the script where Debian's packages aren't installed
+FETCHING = """
+import sys, pathlib
+sys.path.insert(0, "{}")
+import strip
+strip.DEBIAN = pathlib.Path("{}")
+sys.argv[1:] = ["{}"]
+strip.main()
+"""
 
 # the function that the script makes of `main`
 BEGUN = "begun"
@@ -222,6 +233,19 @@ def check_packages(checks, strip):
         checks.expect("the packages of Debian", wanted, {*strip.packages()} - {*strip.COMPILER})
 
 
+def check_fetching(checks):
+    """Without the crates of Debian and without a network, the script says at once what to install."""
+    with tempfile.TemporaryDirectory() as room:
+        script = FETCHING.format(ROOT / "rustc", f"{room}/none", f"{room}/workspace")
+        no_network = {"CARGO_HOME": room, "CARGO_HTTP_PROXY": "http://127.0.0.1:9"}
+        environment = {**os.environ, **no_network}
+        ran = run(sys.executable, "-B", "-c", script, env=environment, timeout=10)
+    first, *rest = ran.error.splitlines()
+    is_so = ran.status == 1 and first.startswith("rustc/strip.py: no crates come from crates.io: ")
+    is_so = is_so and len(rest) == 1 and rest[0].startswith("on Debian 12: apt-get install librust-")
+    checks.expect_that("what the script says without crates", is_so, ran)
+
+
 def check_rewriting(checks, strip):
     """A changed source is written again, an unchanged one isn't, and other crates lock anew."""
     with tempfile.TemporaryDirectory() as room:
@@ -279,6 +303,7 @@ def check(checks, built):
     plain = program()
     for part in (check_sources, check_of_c, check_packages, check_rewriting):
         part(checks, stripping())
+    check_fetching(checks)
     check_unit_tests(checks)
     with tempfile.TemporaryDirectory() as room:
         folder = Path(room)
