@@ -59,6 +59,7 @@ try:
 # Builds program and library by plain rustc, with nothing proved. Rust's crates are Debian's, or
 # come from crates.io; rustc/README.md says more. TARGET names another machine as rustc names it, and
 # CROSS begins the names of its C compiler and its binutils.
+TARGET =
 CROSS = $(addsuffix -,$(subst -unknown,,$(TARGET)))
 NOT_PROVED = out/not_proved$(addprefix /,$(TARGET))
 PROFILE = release
@@ -68,7 +69,8 @@ CC = $(CROSS)gcc
 export CARGO_TARGET_$(shell echo $(TARGET) | tr a-z- A-Z_)_LINKER = $(CC)
 endif
 
-# Groups of sections go, because each object that is linked with the library may have the same group.
+# Its groups of sections are dissolved: if a program has a group of the same name, the linker would
+# drop the library's.
 rustc: can_rustc
 	rustc/strip.py out/rustc
 	cd out/rustc && cargo build --quiet --profile $(PROFILE) -p chanv -p chanv_c \
@@ -78,8 +80,8 @@ rustc: can_rustc
 	cp $(BY_CARGO)/chanv-rustc $(NOT_PROVED)/chanv
 	@echo "chanv and its library are in $(NOT_PROVED), and nothing of them is proved"
 
-# Packs what plain rustc compiles with the crates of Debian that it uses. In the folder of the archive
-# `cargo install --offline --path chanv` builds the program.
+# Packs what plain rustc compiles with the crates of Debian that it uses. In the folder of the
+# archive `cargo install --offline --path chanv` builds the program.
 DIST = out/chanv-$(VERSION)-not-proved.tar.gz
 dist:
 	mkdir -p out
