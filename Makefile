@@ -4,8 +4,9 @@
 # `make lib` builds the library for C. `make install PREFIX=/usr/local` copies what these two built
 # to where users expect it, the libraries to LIBDIR, and builds nothing; `make uninstall` removes it.
 # `make table` prints the contracts. `make rustc` needs no kit: from the same sources plain rustc
-# builds out/rustc/target/release/chanv-rustc, with nothing proved. `make coq` needs no kit either: it
-# proves the laws again in Coq, and builds a second verifier, which is proved there.
+# builds program and library in out/not_proved, with nothing proved, and `make install-rustc` copies
+# them. `make coq` needs no kit either: it proves the laws again in Coq, and builds a second
+# verifier, which is proved there.
 
 PREFIX ?= /usr/local
 LIBDIR ?= $(PREFIX)/lib
@@ -25,15 +26,15 @@ LIBRARIES = ccw_core ckd_core chan_args chan_areas chan_walk chan_needs chan_why
 DECK ?= examples/changes-argument.deck
 
 .PHONY: run libraries $(LIBRARIES) test audit proofs mutants unit_tests lib link install uninstall
-.PHONY: try rustc coq table can_prove can_link can_test can_coq
+.PHONY: try rustc install-rustc dist fuzz coq table can_prove can_link can_test can_coq can_rustc
 
 run: libraries
 	cd crates/chanv && rt run --jobs $(JOBS) < stdin
 	crates/chanv/out/chanv why examples/changes-itself.deck || test $$? -eq 1
 
 # What is missing is named at once, and not after a quarter of an hour.
-can_prove can_link can_test can_coq:
-	@KIT='$(KIT)' CC='$(CC)' tests/tools $(@:can_%=%)
+can_prove can_link can_test can_coq can_rustc:
+	@KIT='$(KIT)' CC='$(CC)' CROSS='$(CROSS)' tests/tools $(@:can_%=%)
 
 # Two libraries are built at a time, and chan_args, which takes one processor, beside them.
 libraries: can_prove
@@ -55,12 +56,37 @@ ckd_core chan_args chan_find: private JOBS = 1
 try:
 	@exec < "$(DECK)" && cd crates/chanv && { rt try -- why || test $$? -eq 1; }
 
-# Compiles the same sources by plain rustc, with nothing proved. Rust's crates are Debian's, or come
-# from crates.io; rustc/README.md says more.
-rustc:
+# Builds program and library by plain rustc, with nothing proved. Rust's crates are Debian's, or
+# come from crates.io; rustc/README.md says more. TARGET names another machine as rustc names it, and
+# CROSS begins the names of its C compiler and its binutils.
+TARGET =
+CROSS = $(addsuffix -,$(subst -unknown,,$(TARGET)))
+NOT_PROVED = out/not_proved$(addprefix /,$(TARGET))
+PROFILE = release
+BY_CARGO = out/rustc/target/$(addsuffix /,$(TARGET))$(PROFILE)
+ifneq ($(TARGET),)
+CC = $(CROSS)gcc
+export CARGO_TARGET_$(shell echo $(TARGET) | tr a-z- A-Z_)_LINKER = $(CC)
+endif
+
+# Its groups of sections are dissolved: if a program has a group of the same name, the linker would
+# drop the library's.
+rustc: can_rustc
 	rustc/strip.py out/rustc
-	cd out/rustc && cargo build --quiet --release -p chanv
-	@echo "out/rustc/target/release/chanv-rustc is built, and nothing of it is proved"
+	cd out/rustc && cargo build --quiet --profile $(PROFILE) -p chanv -p chanv_c \
+	  $(addprefix --target ,$(TARGET))
+	$(MAKE) --no-print-directory link OUT=$(NOT_PROVED) \
+	  PARTS="--force-group-allocation $(BY_CARGO)/libchanv_c.a"
+	cp $(BY_CARGO)/chanv-rustc $(NOT_PROVED)/chanv
+	@echo "chanv and its library are in $(NOT_PROVED), and nothing of them is proved"
+
+# Packs what plain rustc compiles with the crates of Debian that it uses. In the folder of the
+# archive `cargo install --offline --path chanv` builds the program.
+DIST = out/chanv-$(VERSION)-not-proved.tar.gz
+dist:
+	mkdir -p out
+	rustc/dist.py $(VERSION) $(DIST)
+	@echo "$(DIST) is packed, and nothing of it is proved"
 
 # Proves the laws again in Coq, over definitions translated from specs/, and judges a deck by the
 # verifier that is proved there; coq/README.md says more.
@@ -79,6 +105,11 @@ test: can_test libraries
 audit: can_test
 	tests/audit.py
 
+# libFuzzer, so many seconds over each of decks, images and calls.
+SECONDS = 60
+fuzz:
+	tests/fuzz.py --seconds $(SECONDS)
+
 mutants: run lib
 	tests/mutants.py --built
 
@@ -96,17 +127,24 @@ lib: can_link
 	cd crates/chanv_c && rt lib --jobs $(JOBS)
 	$(MAKE) --no-print-directory link
 
+# Where the library goes, and the parts that it is linked from beside the C file.
+OUT = out
+PARTS = --whole-archive crates/chanv_c/out/libchanv_c.a --no-whole-archive \
+  "$$(dirname "$$(rt doc)")/c/liblibc_c.a"
+
 # By itself for the gate, which has proved and built the library of Rattle by then.
 link:
-	mkdir -p out
-	cp crates/chanv_c/include/chanv.h out/chanv.h
-	$(CC) -std=c99 -O2 -fPIC $(CFLAGS) -Iout -c -o out/chanv_c.o c/chanv.c
-	ld -r -o out/chanv.o out/chanv_c.o --whole-archive crates/chanv_c/out/libchanv_c.a \
-	  --no-whole-archive "$$(dirname "$$(rt doc)")/c/liblibc_c.a"
-	objcopy --wildcard --keep-global-symbol='chanv_*' out/chanv.o
-	rm -f out/libchanv.*
-	ar rcs out/libchanv.a out/chanv.o
-	$(CC) -shared $(HARDENED) -Wl,-soname,$(SONAME) -o out/libchanv.so.$(VERSION) out/chanv.o
+	mkdir -p $(OUT)
+	cp crates/chanv_c/include/chanv.h $(OUT)/chanv.h
+	$(CC) -std=c99 -O2 -fPIC $(CFLAGS) -I$(OUT) -c -o $(OUT)/chanv_c.o c/chanv.c
+	$(CROSS)ld -r -o $(OUT)/chanv.o $(OUT)/chanv_c.o $(PARTS)
+	$(CROSS)objcopy --wildcard --keep-global-symbol='chanv_*' $(BITCODE) $(OUT)/chanv.o
+	rm -f $(OUT)/libchanv.*
+	$(CROSS)ar rcs $(OUT)/libchanv.a $(OUT)/chanv.o
+	$(CC) -shared $(HARDENED) -Wl,-soname,$(SONAME) -o $(OUT)/libchanv.so.$(VERSION) $(OUT)/chanv.o
+
+# What Rust's own library has for LLVM, at which `ar` fails.
+BITCODE = --remove-section=.llvmbc --remove-section=.llvmcmd
 
 # Each symbol is bound when the library is loaded, so that its tables can be read-only then, and the
 # stack of the program stays one from which nothing runs.
@@ -116,7 +154,11 @@ HARDENED = -Wl,-z,defs -Wl,-z,relro,-z,now -Wl,-z,noexecstack
 # change with the second, so the name has both.
 SONAME = libchanv.so.$(basename $(VERSION))
 
-BUILT = crates/chanv/out/chanv out/libchanv.a out/libchanv.so.$(VERSION) out/chanv.h
+PROGRAM = crates/chanv/out/chanv
+BUILT = $(PROGRAM) $(OUT)/libchanv.a $(OUT)/libchanv.so.$(VERSION) $(OUT)/chanv.h
+# what builds them, and what the descriptions say of them besides
+BUILDS = make and make lib
+BESIDES =
 
 # What the pages link to outside docs/, and the decks and programs that they name. README makes
 # examples/dump.deck.
@@ -127,13 +169,13 @@ TO_LIB = $(DESTDIR)$(LIBDIR)
 
 install:
 	@for built in $(BUILT); do test -f $$built || \
-	  { echo "make install: no $$built; run make and make lib first" >&2; exit 1; }; done
-	install -D crates/chanv/out/chanv "$(TO)/bin/chanv"
+	  { echo "make install: no $$built; run $(BUILDS) first" >&2; exit 1; }; done
+	install -D $(PROGRAM) "$(TO)/bin/chanv"
 	install -D -m 644 docs/chanv.1 "$(TO)/share/man/man1/chanv.1"
 	install -D -m 644 docs/chanv.bash "$(TO)/share/bash-completion/completions/chanv"
-	install -D -m 644 out/chanv.h "$(TO)/include/chanv.h"
-	install -D -m 644 out/libchanv.a "$(TO_LIB)/libchanv.a"
-	install -D out/libchanv.so.$(VERSION) "$(TO_LIB)/libchanv.so.$(VERSION)"
+	install -D -m 644 $(OUT)/chanv.h "$(TO)/include/chanv.h"
+	install -D -m 644 $(OUT)/libchanv.a "$(TO_LIB)/libchanv.a"
+	install -D $(OUT)/libchanv.so.$(VERSION) "$(TO_LIB)/libchanv.so.$(VERSION)"
 	ln -sf libchanv.so.$(VERSION) "$(TO_LIB)/$(SONAME)"
 	ln -sf $(SONAME) "$(TO_LIB)/libchanv.so"
 	install -d "$(TO)/share/chanv/python/chanv"
@@ -146,9 +188,17 @@ install:
 	chmod 755 "$(TO)/share/doc/chanv/examples/hercules/try.sh"
 	install -d "$(TO_LIB)/pkgconfig"
 	sed -e 's|@PREFIX@|$(PREFIX)|; s|@VERSION@|$(VERSION)|' \
-	  -e 's|@LIBDIR@|$(subst $(PREFIX)/,$${prefix}/,$(LIBDIR))|' docs/chanv.pc.in > \
+	  -e 's|@LIBDIR@|$(subst $(PREFIX)/,$${prefix}/,$(LIBDIR))|; /^Desc/s|$$|$(BESIDES)|' \
+	  docs/chanv.pc.in > \
 	  "$(TO_LIB)/pkgconfig/chanv.pc"
 	chmod 644 "$(TO_LIB)/pkgconfig/chanv.pc"
+
+# Installs what `make rustc` built under the same names, so that the proved library can take its
+# place; the program, the library's version and the package's version say that it isn't proved.
+install-rustc:
+	@$(MAKE) --no-print-directory -f $(firstword $(MAKEFILE_LIST)) install OUT=$(NOT_PROVED) \
+	  PROGRAM=$(NOT_PROVED)/chanv BUILDS="make rustc" BESIDES=", not proved"
+	@sed -i '/^VERSION = /s/"$$/+not.proved"/' "$(TO)/share/chanv/python/chanv/_c.py"
 
 uninstall:
 	rm -f "$(TO)/bin/chanv" "$(TO)/share/man/man1/chanv.1" "$(TO)/include/chanv.h" \

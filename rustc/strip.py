@@ -5,7 +5,7 @@
     rustc/strip.py --packages
 
 From each .rt file the script takes away what only the prover reads. Line ends stay, so a message of
-rustc names the line of the .rt file. Five forms are written as Rust has them: see FORMS. Each file
+rustc names the line of the .rt file. A few forms are written as Rust has them: see FORMS. Each file
 gets the prelude of kit/, which gives Rattle's names of `std` over Rust's. shims/ has the crates
 whose calls differ from Rust's. The other crates are Rust's own: Debian's, if its packages
 librust-*-dev are installed, and otherwise those of crates.io. --packages prints the packages of
@@ -13,6 +13,7 @@ Debian that are missing here.
 """
 
 import argparse
+import os
 import re
 import shutil
 import subprocess
@@ -50,8 +51,49 @@ def derived(found):
     return f"#[derive({', '.join(names)})]" if names else ""
 
 
-# What Rust has otherwise: derives and bounds of `Drop`, the writer of a `fmt`, and the runtime that
-# `main` or a test is given.
+# The structs that C lays out and that have lists, what is inside of braces, and a list in a field
+# or a parameter.
+OF_C = "CBytes|CJob|NeedLists|Remembered"
+INSIDE = r"[^{}]*(?:\{%s\}[^{}]*)*"
+LIST = re.compile(r"&(?:'a )?(mut )?\[([\w<>'_]+)\]")
+
+
+def laid_out_by_c(found):
+    """A struct whose lists are pointers and lengths, as C has them."""
+    return LIST.sub(lambda it: f"::kit::c::List<'a, {it[2]}>", found[0])
+
+
+def made_for_c(found):
+    """A struct of C that is made from slices."""
+    text = re.sub(r"(?m)^( +)(copy|store|keep),$", r"\1\2: \2,", found[0])
+    text = re.sub(r"(: )&\[(.+)\],$", r"\1::kit::c::List::leaked([\2]),", text, flags=re.M)
+    lists = r"\b(storage|extents|fetch|store|keep|kept): (?!::kit)([^\n]+),(?=\n)"
+    return re.sub(lists, r"\1: ::kit::c::List::of(\2),", text)
+
+
+def called_by_c(found):
+    """A call of the library as C makes it, and as the sources have it. C hands over a list as a
+    pointer and a length, and no allocator, which has no size."""
+    name, given = found[1], found[2]
+    taken, handed = [], []
+    for what, kind in re.findall(r"(\w+): ([^,]+)", given):
+        if of := LIST.fullmatch(kind.strip()):
+            taken += [f"{what}: *{'mut' if of[1] else 'const'} {of[2]}", f"{what}_len: usize"]
+            made = f"::kit::c::{'room' if of[1] else 'list'}({what}, {what}_len)"
+            handed.append(f"unsafe {{ {made} }}")
+        elif kind == "Global":
+            handed.append(kind)
+        else:
+            taken.append(f"{what}: {kind}")
+            handed.append(what)
+    also = "::kit::c::NOT_PROVED | " if name == "chanv_version" else ""
+    body = f"{also}self::{name}({', '.join(handed)})"
+    outer = f'extern "C" fn {name}({", ".join(taken)}) -> u32 {{ {body} }}'
+    return f"const _: () = {{ #[unsafe(no_mangle)]\n{outer} }}; pub fn {name}({given}) -> u32"
+
+
+# What Rust has otherwise: derives and bounds of `Drop`, the writer of a `fmt`, the runtime that
+# `main` or a test is given, and what C calls, lays out, and may write meanwhile.
 FORMS = [
     (re.compile(r"#\[derive\(([\w, ]*)\)\]"), derived),
     (re.compile(r"(?<=\w)(?::| \+) Drop\b"), lambda found: ""),
@@ -66,6 +108,20 @@ FORMS = [
     (
         re.compile(r"fn (\w+)\(rt: HostRuntime\)([^{]*)\{"),
         lambda found: f"fn {found[1]}(){found[2]}{{ let rt = HostRuntime::new();",
+    ),
+    (
+        re.compile(r'#\[unsafe\(no_mangle\)\]\npub extern "C" fn (\w+)\(([^)]*)\) -> u32'),
+        called_by_c,
+    ),
+    (re.compile(rf"#\[repr\(C\)\]\n.*\npub struct (?:{OF_C})<[^}}]*}}"), laid_out_by_c),
+    (re.compile(rf"\b(?:{OF_C}) \{{{INSIDE % (INSIDE % '[^{}]*')}\}}"), made_for_c),
+    (
+        re.compile(r"\b(or_empty\(|pairs_of\(alloc, )(\w+\.\w+)\)"),
+        lambda found: f"{found[1]}{found[2]}.rows())",
+    ),
+    (
+        re.compile(r"\b((?:copy|into)\[[^\]]*\])\.copy_from_slice\("),
+        lambda found: f"::kit::c::copy(&mut {found[1]}, ",
     ),
 ]
 
@@ -131,7 +187,9 @@ def crates():
 
 def manifest(name, words, needs, own):
     """The Cargo.toml of a crate. The program is named so that it isn't taken for the proved one."""
-    lines = ["[package]", f'name = "{name}"', 'version = "0.0.0"', 'edition = "2024"']
+    [version] = re.findall(r"(?m)^VERSION = (.*)$", (ROOT / "Makefile").read_text())
+    lines = ["[package]", f'name = "{name}"', f'version = "{version}+not.proved"']
+    lines.append('edition = "2024"')
     lines += ["[lints]", "workspace = true"]
     if name == "chanv":
         lines += ["[[bin]]", 'name = "chanv-rustc"', 'path = "src/main.rs"']
@@ -175,11 +233,17 @@ def source_of(given):
     """The folder of Rust's crates, or None for crates.io."""
     if given:
         return None if given == "crates.io" else Path(given).absolute()
-    names = lacking(DEBIAN)
-    if names:
-        about = f"{DEBIAN} lacks {', '.join(names)}, so the crates come from crates.io"
-        print(f"rustc/strip.py: {about}; {install()}", file=sys.stderr)
-    return None if names else DEBIAN
+    return None if lacking(DEBIAN) else DEBIAN
+
+
+def fetch(folder):
+    """Has cargo load the crates from crates.io, and ends at once if it can't."""
+    at_once = {**os.environ, "CARGO_NET_RETRY": "0"}
+    words = ["cargo", "fetch", "--quiet"]
+    ran = subprocess.run(words, cwd=folder, env=at_once, capture_output=True, text=True)
+    if ran.returncode != 0:
+        why = ran.stderr.strip().rpartition("\n")[2].strip()
+        sys.exit(f"rustc/strip.py: no crates come from crates.io: {why}\n{install()}")
 
 
 def write(path, text):
@@ -221,13 +285,16 @@ def main():
         return
     if fault := fault_of_cargo():
         sys.exit(f"rustc/strip.py: {fault}; {install()}")
-    write_source(given.to, source_of(given.crates))
+    source = source_of(given.crates)
+    write_source(given.to, source)
     for path in [HERE / "Cargo.toml", *HERE.glob("kit/**/*.*"), *HERE.glob("shims/**/*.*")]:
         write(given.to / path.relative_to(HERE), path.read_text())
     rows = [*crates()]
     own = {name for name, _, _ in rows}
     for name, words, needs in rows:
         write_crate(given.to, name, words, needs, own)
+    if source is None:
+        fetch(given.to)
 
 
 if __name__ == "__main__":

@@ -12,6 +12,8 @@ from running import run
 ROOT = Path(__file__).resolve().parent.parent
 HERE = ROOT / "tests"
 FLAGS = ["-std=c11", "-Wall", "-Wextra", "-Werror", "-O2"]
+# what `make rustc` leaves
+NOT_PROVED = ROOT / "out/not_proved"
 SANITIZED = ["-g", "-fsanitize=address,undefined", "-fno-sanitize-recover=all"]
 
 
@@ -68,6 +70,16 @@ class Built:
             if not (folder / name).is_file():
                 raise CannotRun(f"no {folder / name}")
         return folder
+
+
+def is_proved(path):
+    """Whether a program, or the folder of a library, isn't one that `make rustc` left."""
+    return NOT_PROVED not in (path, *path.parents)
+
+
+def said_version(program):
+    """What the program says to --version."""
+    return f"chanv {version()}\n" if is_proved(program) else f"chanv {version()} (not proved)\n"
 
 
 def existing(program):

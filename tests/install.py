@@ -5,9 +5,10 @@ show the calls of the header, and nothing else; the example of docs/EMBEDDING.md
 pkg-config says, with either library; each link of the installed pages leads to an installed file,
 and so does each page that the manual and the header name; each file of a stage has its mode, and
 nothing is written beside the stage; and `make uninstall` takes away all that was put there. No
-prefix is outside the test's own folder. The commands and the Python of docs/EMBEDDING.md do what
-the page shows. What asks pkg-config is left out, by its name, where there is none. `make try` hands
-its deck to `rt`, in whose place a script stands.
+prefix is outside the test's own folder. What `make rustc` built is installed by the target
+`install-rustc`, and says that it isn't proved. The commands and the Python of docs/EMBEDDING.md do
+what the page shows. What asks pkg-config is left out, by its name, where there is none. `make try`
+hands its deck to `rt`, in whose place a script stands.
 """
 
 import os
@@ -18,13 +19,16 @@ import sys
 import tempfile
 from pathlib import Path
 
-from building import FLAGS, ROOT, compile_c, version, version_of
+from building import FLAGS, ROOT, compile_c, is_proved, said_version, short, version, version_of
 from examples import EXAMPLES, SEARCH_LOOP
 from links_and_sizes import NAMED, broken_links
 from pages import EMBEDDING, check_page, shown_by
 from running import Ran, run, text_of
 
 PROGRAM = "crates/chanv/out/chanv"
+# the targets of make that `make rustc` has others for
+TARGETS = {}
+OF_RUSTC = {"install": "install-rustc"}
 # what the page says as the prefix
 PREFIX = "/usr/local"
 
@@ -50,6 +54,9 @@ STAGED_LIBRARIES = {
     "pkgconfig/chanv.pc": READ,
 }
 
+# the package's version, and whether the library says that it isn't proved
+PROVED = "import chanv as c; print(c.__version__, c._c.library.chanv_version() < 0)"
+
 # in place of rt: says where it is and what it is told, and copies the deck
 RT = """#!/bin/sh
 echo "${PWD##*/} $*"
@@ -60,6 +67,7 @@ exit "$STATUS"
 
 def make(target, to, *words, **how):
     """Calls make for a folder of its own; the libraries' linker is told of it as users tell it."""
+    target = TARGETS.get(target, target)
     return run("make", "-s", "-C", ROOT, target, f"PREFIX={to}", *words, **how)
 
 
@@ -197,30 +205,37 @@ def check_try(checks, folder):
 
 
 def check(checks, built):
-    built.library()
+    library, program = built.library(), built.chanv()
+    TARGETS.update({} if is_proved(program) else OF_RUSTC)
     shown = dict(shown_by(EMBEDDING))["./ask"]
     with tempfile.TemporaryDirectory() as room:
-        check_embedding(checks, built.chanv(), Path(room))
+        check_embedding(checks, program, Path(room))
     with tempfile.TemporaryDirectory(prefix="two words ") as room:
         folder = Path(room)
         nowhere = f"PREFIX={folder / 'nowhere'}"
-        ran = run("make", "-s", "-f", ROOT / "Makefile", "-C", room, "install", nowhere)
-        checks.expect_that("says what isn't built", f"no {PROGRAM};" in ran.error, ran)
+        target = TARGETS.get("install", "install")
+        ran = run("make", "-s", "-f", ROOT / "Makefile", "-C", room, target, nowhere)
+        first = PROGRAM if is_proved(program) else short(program)
+        checks.expect_that("says what isn't built", f"no {first};" in ran.error, ran)
         to = folder / "opt"
         checks.expect("make install", 0, make("install", to).status)
-        version = run(to / "bin/chanv", "--version").output
+        said = run(to / "bin/chanv", "--version").output
         there = version_of(to / "include/chanv.h")
-        checks.expect("the header's version", f"chanv {there}\n", version)
-        _, said = pkg_config(to, "--modversion") if shutil.which("pkg-config") else (0, None)
-        if said is None:
+        checks.expect("the program's version", said_version(program), said)
+        checks.expect("the header's version", version(), there)
+        _, told = pkg_config(to, "--modversion") if shutil.which("pkg-config") else (0, None)
+        if told is None:
             checks.skip("the example, built with pkg-config", "no pkg-config")
         else:
-            checks.expect("one version", version, f"chanv {said[0]}\n")
+            checks.expect("the version of pkg-config", [version()], told)
             check_example(checks, to, shown)
         check_names(checks, to)
         python = ["env", f"PYTHONPATH={to / 'share/chanv/python'}", sys.executable, "-B", "-c"]
         ran = run(*python, "import chanv; print(chanv.verify(chanv.Job(bytes(8), 0, [(0, 1)])))")
         checks.expect("the Python module, installed", Ran(0, "no 000000 invalid-code\n"), ran)
+        also = ("+not.proved", True) if not is_proved(library) else ("", False)
+        wanted = Ran(0, f"{version()}{also[0]} {also[1]}\n")
+        checks.expect("what Python says of it", wanted, run(*python, PROVED))
         check_pages(checks, to)
         deck = to / "share/doc/chanv/examples/search-loop.deck"
         ran = run(to / "bin/chanv", "verify", given=deck)

@@ -13,13 +13,14 @@ import tempfile
 from pathlib import Path
 from textwrap import dedent
 
-from building import HERE, ROOT, SANITIZED, c_compiler, compile_c, compile_with, short, version_of
+from building import HERE, ROOT, SANITIZED, c_compiler, compile_c, compile_with, is_proved, short
+from building import version_of
 from examples import EXAMPLES
 from refusing import Case, Growths
 from running import Ran, run, text_of
 
 # the programs whose calls get too little room, foreign rows or threads run under the sanitizers
-LINED = ("edges", "needs", "memory", "threads")
+LINED = ("edges", "needs", "memory", "threads", "far")
 TESTS = ("one_call", "bytes", *LINED)
 SOURCES = [EXAMPLES / "c/ask.c", *[HERE / f"c/{name}.c" for name in TESTS]]
 MAY_ASK_FOR = {"memcpy", "memmove", "memset", "malloc", "realloc", "free"}
@@ -196,7 +197,12 @@ def check_archive(checks, library):
     symbols = [line.split()[-2:] for line in ran.output.splitlines() if len(line.split()) > 1]
     defined = {name for kind, name in symbols if kind.isupper() and kind != "U"}
     asked = {name for kind, name in symbols if kind == "U"}
-    checks.expect("what the archive asks for", MAY_ASK_FOR, asked - defined)
+    if is_proved(library):
+        checks.expect("what the archive asks for", MAY_ASK_FOR, asked - defined)
+    else:
+        # Rust's own library asks for more of C's
+        names = sorted(it for it in asked - defined if re.match("_R|_ZN|chanv", it))
+        checks.expect("what the archive asks for that C hasn't", [], names)
     checks.expect("what the archive gives", CALLS, defined - OF_THE_RUNTIME)
 
 

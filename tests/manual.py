@@ -3,7 +3,7 @@
 import re
 import shutil
 
-from building import ROOT, version
+from building import ROOT, said_version, version
 from examples import EXAMPLES
 from running import Ran, run, run_in_bash, text_of
 
@@ -41,7 +41,7 @@ def commands_of_help(program):
 def check_page(checks, program):
     """The page is of this version, and has each command that help lists and no other."""
     page, commands = text_of(PAGE), commands_of_help(program)
-    checks.expect("the version", Ran(0, VERSION), run(program, "--version"))
+    checks.expect("the version", Ran(0, said_version(program)), run(program, "--version"))
     version = re.findall(r'(?m)^\.TH .*"(chanv [0-9.]*)"', page)
     checks.expect("the version of the manual page", [VERSION.strip()], version)
     section = page.partition("\n.SH COMMANDS\n")[2].partition("\n.SH OPERANDS\n")[0]

@@ -24,6 +24,7 @@ OUTSIDE = set(
     clippy no-deps allow-holes tidy plant proves lto savecore setuptools
     dlopen ldconfig mprotect MAP_FIXED ls
     find_package pkg_check_modules PkgConfig IMPORTED_TARGET dependency
+    rustup s390x-unknown-linux-gnu s390x-linux-gnu-gcc
     lib share/chanv/python
     """.split()
 )
@@ -45,7 +46,7 @@ DECLARED = re.compile(r"(?m)^use .*|^(?:[a-z]+ )*?(?:pub )?[^\W\d]\w*(?= |$)|^  
 FRONT = re.compile(r"(?m)^\s*(?:///?|//!|--|\*|#)\s?")
 
 SHELL = {"", ".sh", ".bash", ".in", ".edit", ".txt", ".toml", ".dot", ".s", ".1", ".map"}
-NO_SOURCES = {".md", ".svg", ".deck", ".bin"}
+NO_SOURCES = {".gz", ".md", ".svg", ".deck", ".bin"}
 ENDINGS = r"(?:rt|antt|rs|py|md|h|c|sh|s|txt|toml|dot|svg|edit)"
 PATH = re.compile(rf"(?:[\w.-]+/)+[\w.-]*|[\w-]+\.{ENDINGS}")
 # `NAME` and the like stand for any name, and `out/` is made

@@ -365,7 +365,7 @@ def check_library(checks, library, room):
     at = {"__name__": "_c", "__file__": "/_c.py"}
     code = text_of(FOLDER / "chanv/_c.py")
     script = f"at = {at!r}; exec(compile({code!r}, '_c.py', 'exec'), at)\n"
-    script += "print(at['__getattr__']('library').chanv_version() >> 16)"
+    script += "print(at['__getattr__']('library').chanv_version() >> 16 & 255)"
     checks.expect("right under the root", Ran(0, "0\n"), python(library, script))
 
 

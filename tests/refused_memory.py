@@ -11,7 +11,7 @@ import tempfile
 
 from answers import FOUND, WIDE
 from beginnings import core, note_of
-from building import ROOT
+from building import ROOT, is_proved
 from cures import UNSEEN, said_beside
 from examples import CHANGES_BOTH, CHANGES_ITSELF, EXAMPLES, SEARCH_LOOP
 from find import NONE_FOUND
@@ -186,7 +186,9 @@ def help_cases(chanv):
 
 def check(checks, built):
     chanv = built.chanv()
-    cases = [*call_cases(built.unit_tests()), *command_cases(chanv)]
+    cases = [*command_cases(chanv)]
+    if is_proved(chanv):
+        cases += call_cases(built.unit_tests())
     cases += [*advice_cases(chanv), *help_cases(chanv)]
     with tempfile.TemporaryDirectory() as folder:
         growths = Growths(folder)

@@ -17,13 +17,14 @@ import os
 import re
 import shlex
 import subprocess
+import sys
 import tempfile
 from concurrent.futures import ThreadPoolExecutor
 from pathlib import Path
 from random import Random
 
 from answers import make_inputs
-from building import ROOT, short, version
+from building import ROOT, short
 from cargo import CHECKED, cargo, missing, program, stripping, workspace
 from command_lines import runs
 from examples import EXAMPLES, FOLDERS, SEARCH_LOOP, TEXTS, decks_of
@@ -32,6 +33,7 @@ from model import SEED, deck_of, jobs_of
 from refused_decks import refused
 from refused_memory import advice_cases, command_cases
 from refusing import Growths
+from rows import without_clap
 from running import Ran, run, run_in_bash, text_of
 from speed import decks_of_bench
 
@@ -53,6 +55,20 @@ OF_AN_IMAGE = [
 LARGE = ["places", "loops", "chain", "ring", "comb", "offends"]
 # the start in an image that isn't of a job
 START = 0x800
+
+# the crates whose structs and calls are C's, and a file that copies only what the library made
+OF_C = ["chan_needs", "chanv_c"]
+WRITES_ONLY = ["writing.rt"]
+
+# the script where Debian's packages aren't installed
+FETCHING = """
+import sys, pathlib
+sys.path.insert(0, "{}")
+import strip
+strip.DEBIAN = pathlib.Path("{}")
+sys.argv[1:] = ["{}"]
+strip.main()
+"""
 
 # the function that the script makes of `main`
 BEGUN = "begun"
@@ -152,15 +168,10 @@ def check_words(checks, programs):
 def check_command_lines(checks, programs, folder):
     """The words of a usage fault are clap's, except where a file is named in place of a command."""
     make_inputs(folder)
-    for words, given, parts in runs():
+    for words, given, _ in runs():
         file = folder / given
         how = {"given": file if file.is_file() else b"", "cwd": folder}
-        both = [run(it, *words, **how) for it in programs]
-        if both[0].output == f"chanv {version()}\n":
-            both[0] = Ran(0, f"chanv {version()} (not proved)\n")
-        said = parts[0].error
-        if said.startswith("error: ") and "isn't a command" not in said:
-            both = [ran._replace(error=ran.error.partition(" ")[0]) for ran in both]
+        both = without_clap(*(run(it, *words, **how) for it in programs))
         checks.expect(f"{words} < {given}", *both)
 
 
@@ -195,6 +206,18 @@ def check_sources(checks, strip):
         checks.expect(f"functions in other lines of {short(path)}", [], moved)
 
 
+def check_of_c(checks, strip):
+    """No call of C takes a slice, no struct of C has a slice, and what may be written meanwhile is
+    copied by the loads of kit/."""
+    for path in sorted(it for crate in OF_C for it in (ROOT / "crates" / crate).glob("src/*.rt")):
+        text = strip.strip(text_of(path))
+        seen = re.findall(r'extern "C" fn [^{]*|#\[repr\(C\)\][^}]*', text)
+        slices = [it for it in seen if re.search(r"&[^,\n]*\[", it)]
+        checks.expect(f"slices that C hands to {short(path)}", [], slices)
+        plain = [] if path.name in WRITES_ONLY else re.findall(r".*copy_from_slice.*", text)
+        checks.expect(f"plain copies in {short(path)}", [], plain)
+
+
 def check_packages(checks, strip):
     """Where nothing is installed the script names what the workspace and its shims use, and README
     the compiler."""
@@ -208,6 +231,19 @@ def check_packages(checks, strip):
     with tempfile.TemporaryDirectory() as room:
         strip.DEBIAN = Path(room)
         checks.expect("the packages of Debian", wanted, {*strip.packages()} - {*strip.COMPILER})
+
+
+def check_fetching(checks):
+    """Without the crates of Debian and without a network, the script says at once what to install."""
+    with tempfile.TemporaryDirectory() as room:
+        script = FETCHING.format(ROOT / "rustc", f"{room}/none", f"{room}/workspace")
+        no_network = {"CARGO_HOME": room, "CARGO_HTTP_PROXY": "http://127.0.0.1:9"}
+        environment = {**os.environ, **no_network}
+        ran = run(sys.executable, "-B", "-c", script, env=environment, timeout=10)
+    first, *rest = ran.error.splitlines()
+    is_so = ran.status == 1 and first.startswith("rustc/strip.py: no crates come from crates.io: ")
+    is_so = is_so and len(rest) == 1 and rest[0].startswith("on Debian 12: apt-get install librust-")
+    checks.expect_that("what the script says without crates", is_so, ran)
 
 
 def check_rewriting(checks, strip):
@@ -225,7 +261,7 @@ def check_rewriting(checks, strip):
 
 def check_unit_tests(checks):
     sources = [text_of(path) for path in (ROOT / "crates/unit_tests/src").rglob("*.rt")]
-    ran = run("cargo", "test", *CHECKED, "-p", "unit_tests", cwd=workspace(), timeout=None)
+    ran = run("cargo", "test", "--lib", *CHECKED, "-p", "unit_tests", cwd=workspace(), timeout=None)
     checks.expect_that("the unit tests", ran.status == 0, ran)
     passed = sum(map(int, re.findall(r"test result: ok. (\d+) passed", ran.output)))
     checks.expect("how many unit tests", "".join(sources).count("#[test]"), passed)
@@ -265,8 +301,9 @@ def check(checks, built):
         return
     count = int(os.environ.get("RUSTC_JOBS") or 0)
     plain = program()
-    for part in (check_sources, check_packages, check_rewriting):
+    for part in (check_sources, check_of_c, check_packages, check_rewriting):
         part(checks, stripping())
+    check_fetching(checks)
     check_unit_tests(checks)
     with tempfile.TemporaryDirectory() as room:
         folder = Path(room)

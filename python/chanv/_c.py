@@ -265,7 +265,8 @@ def _found() -> str:
 
 def _version_of(library: CDLL) -> str:
     packed = library.chanv_version()
-    return f"{packed >> 16}.{packed >> 8 & 255}.{packed & 255}"
+    # the highest bit says that nothing of the library is proved
+    return f"{packed >> 16 & 0x7FFF}.{packed >> 8 & 255}.{packed & 255}"
 
 
 def _load() -> CDLL:
@@ -281,7 +282,7 @@ def _load() -> CDLL:
         version = _version_of(library)
     except AttributeError as error:
         raise WrongLibrary(f"{path} isn't chanv's library: {error}") from error
-    if version.rpartition(".")[0] != VERSION.rpartition(".")[0]:
+    if version.split(".")[:2] != VERSION.split(".")[:2]:
         raise WrongLibrary(f"{path} is version {version}, and this package needs {VERSION}")
     return library
 

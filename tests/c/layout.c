@@ -13,7 +13,7 @@
 
 int main(void)
 {
-    uint32_t versions[] = {CHANV_VERSION_NUMBER, chanv_version()};
+    uint32_t versions[] = {CHANV_VERSION_NUMBER, chanv_version() & ~CHANV_NOT_PROVED};
     printf("%s %d.%d.%d", CHANV_VERSION, CHANV_VERSION_MAJOR, CHANV_VERSION_MINOR,
            CHANV_VERSION_PATCH);
     for (int i = 0; i < 2; i++)

@@ -81,13 +81,15 @@ extern "C" {
 #endif
 
 /* The version of this header: as text, number by number, and as one number, 65,536 times the first
- * number plus 256 times the second plus the third. `chanv_version` gives the library's number. */
+ * number plus 256 times the second plus the third. `chanv_version` gives the library's number, to
+ * which the library that plain rustc builds adds CHANV_NOT_PROVED. */
 #define CHANV_VERSION "0.8.0"
 #define CHANV_VERSION_MAJOR 0
 #define CHANV_VERSION_MINOR 8
 #define CHANV_VERSION_PATCH 0
 #define CHANV_VERSION_NUMBER \
     (65536 * CHANV_VERSION_MAJOR + 256 * CHANV_VERSION_MINOR + CHANV_VERSION_PATCH)
+#define CHANV_NOT_PROVED 0x80000000u
 
 /* A compiler that knows the attributes warns if the caller ignores an answer, or passes NULL for
  * one of the pointers with these numbers, counted from 1. */
@@ -491,7 +493,8 @@ enum chanv_answer chanv_find(const struct chanv_bytes *storage, uint16_t device,
 /* 1 if the answer is a fault of the job itself (4 to 10), else 0. */
 int chanv_is_fault(uint32_t answer);
 
-/* The library's version, as CHANV_VERSION_NUMBER is the header's. */
+/* The library's version, as CHANV_VERSION_NUMBER is the header's, plus CHANV_NOT_PROVED if nothing
+ * of the library is proved. */
 uint32_t chanv_version(void);
 
 /* The word for a reason; for what a call returned; for the code of a refusal; and for how a program

@@ -3,6 +3,7 @@
 //!
 //! As in Rattle, an allocation that is refused is an `Err`.
 
+pub mod c;
 pub mod collections;
 pub mod heap;
 pub mod runtime;
@@ -78,6 +79,8 @@ pub mod prelude {
     pub use crate::runtime::HostRuntime;
     pub use crate::text::{Concat, String};
     pub use crate::vec::Vec;
+    // a module, because `str` itself has no `from_utf8` before Rust 1.87
+    pub use ::std::str;
 }
 
 /// The program. C's start-up code calls it, because Rust's opens streams that are closed.

@@ -1,10 +1,10 @@
-//! Rust's `clap`, with the allocator and the errors of Rattle's port. There a value is a text that
-//! lives as long as the words; here it is leaked, because the program reads its words only once.
+//! Rust's `clap`, with the allocator and the errors of Rattle's port.
 
 use kit::alloc::{AllocError, Global};
 use kit::heap::needing;
 use kit::prelude::*;
 use std::marker::PhantomData;
+use std::sync::OnceLock;
 
 pub use of_rust::ArgAction;
 
@@ -21,6 +21,9 @@ pub mod error {
 
 use error::ErrorKind;
 use of_rust::error::ErrorKind as Kind;
+
+/// What the program says of its version.
+static VERSION: OnceLock<std::string::String> = OnceLock::new();
 
 /// What is wrong with the words, or `None` if memory ran out.
 pub struct Error(Option<of_rust::Error>);
@@ -110,7 +113,8 @@ impl<'a> Command<'a> {
 
     /// No one shall take this program for the proved one.
     pub fn version(self, text: &'static str) -> Command<'a> {
-        self.with(|command| command.version(leaked(&format!("{text} (not proved)"))))
+        let said = || VERSION.get_or_init(|| format!("{text} (not proved)")).as_str();
+        self.with(|command| command.version(said()))
     }
 
     pub fn arg(self, arg: Arg<'a>) -> Result<Command<'a>, AllocError> {
@@ -122,9 +126,9 @@ impl<'a> Command<'a> {
     }
 
     pub fn try_get_matches_from(self, words: &'a [String]) -> Result<ArgMatches<'a>, Error> {
-        let words = words.iter().map(|word| word.as_str().to_owned());
-        needing(|| match self.0.try_get_matches_from(words) {
-            Ok(matches) => Ok(ArgMatches::of(&matches)),
+        let given = words.iter().map(|word| word.as_str().to_owned());
+        needing(|| match self.0.try_get_matches_from(given) {
+            Ok(matches) => Ok(ArgMatches::of(&matches, words)),
             Err(error) => Err(Error(Some(error))),
         })
     }
@@ -137,12 +141,12 @@ pub struct ArgMatches<'a> {
 }
 
 impl<'a> ArgMatches<'a> {
-    fn of(matches: &of_rust::ArgMatches) -> ArgMatches<'a> {
+    fn of(matches: &of_rust::ArgMatches, words: &'a [String]) -> ArgMatches<'a> {
         let mut texts = std::vec::Vec::new();
         for id in matches.ids() {
             let name = id.as_str();
             let met = match matches.try_get_many::<std::string::String>(name) {
-                Ok(values) => values.into_iter().flatten().map(|text| leaked(text)).collect(),
+                Ok(values) => values.into_iter().flatten().map(|it| part_of(words, it)).collect(),
                 Err(_) => vec_of_flag(matches.get_flag(name)),
             };
             texts.push((name.to_owned(), met));
@@ -150,7 +154,9 @@ impl<'a> ArgMatches<'a> {
         let inner = matches.subcommand();
         ArgMatches {
             texts,
-            inner: inner.map(|(name, inner)| (name.to_owned(), Box::new(ArgMatches::of(inner)))),
+            inner: inner.map(|(name, inner)| {
+                (name.to_owned(), Box::new(ArgMatches::of(inner, words)))
+            }),
         }
     }
 
@@ -168,8 +174,11 @@ impl<'a> ArgMatches<'a> {
     }
 }
 
-fn leaked(text: &str) -> &'static str {
-    Box::leak(text.to_owned().into_boxed_str())
+/// The value of an option or an argument, in the word that ends with it.
+fn part_of<'a>(words: &'a [String], value: &str) -> &'a str {
+    let mut words = words.iter().map(|word| word.as_str());
+    let word = words.find(|word| word.ends_with(value)).expect("a value ends a word");
+    &word[word.len() - value.len()..]
 }
 
 fn vec_of_flag<'a>(is_on: bool) -> std::vec::Vec<&'a str> {
