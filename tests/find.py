@@ -236,8 +236,9 @@ def check_large(checks, program):
         checks.expect(f"an image of {name}", Ran(0, line, "" if line else NONE_FOUND), ran)
     for words, note in [
         (["--at", "0"], NONE_FOUND),
-        (["--at", "800"], "note: no program found\n"),
-        (["--storage", "1000"], "note: no program found\n"),
+        (["--at", "800"], f"{NONE}; if storage goes on behind the image, give --storage\n"),
+        (["--storage", "1000"], f"{NONE}; {ELSEWHERE}, give --at\n"),
+        (["--at", "800", "--storage", "1000"], f"{NONE}\n"),
     ]:
         ran = run(program, "find", "--device", "2314", *words, given=bytes(64))
         checks.expect(f"no program, with {' '.join(words)}", Ran(0, "", note), ran)
@@ -248,6 +249,8 @@ def check_large(checks, program):
 
 # what `beginnings` tries
 FITTING = re.compile(r"note: \d+(?: other)? search loops? fits? if .+")
+NONE = "note: no program found"
+ELSEWHERE = "if the image begins at another address than 0"
 NONE_FOUND = (
     "note: no program found; if the image is a part of storage, give --at and --storage\n"
 )

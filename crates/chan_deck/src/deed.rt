@@ -11,36 +11,11 @@ use std::fmt::Write as _;
 /// The most bytes of a key that are shown.
 const MOST_OF_KEY: u32 = 16;
 
-/// The characters of EBCDIC that a key is shown in, each with its code.
-const CHARACTERS: &[(u8, u8)] = &[
-    (0x40, b' '),
-    (0x4B, b'.'),
-    (0x4D, b'('),
-    (0x4E, b'+'),
-    (0x5B, b'$'),
-    (0x5C, b'*'),
-    (0x5D, b')'),
-    (0x60, b'-'),
-    (0x61, b'/'),
-    (0x6B, b','),
-    (0x6C, b'%'),
-    (0x6D, b'_'),
-    (0x7A, b':'),
-    (0x7B, b'#'),
-    (0x7C, b'@'),
-    (0x7E, b'='),
-];
-
-/// The first code of each run of letters or digits in EBCDIC, the last, and the first character.
-const RUNS: &[(u8, u8, u8)] = &[
-    (0x81, 0x89, b'a'),
-    (0x91, 0x99, b'j'),
-    (0xA2, 0xA9, b's'),
-    (0xC1, 0xC9, b'A'),
-    (0xD1, 0xD9, b'J'),
-    (0xE2, 0xE9, b'S'),
-    (0xF0, 0xF9, b'0'),
-];
+/// The characters of EBCDIC that a key is shown in, from code 40 on; `?` stands for any other.
+const CHARACTERS: &[u8; 192] = b"\
+    \x20??????????.?(+????????????$*)??-/?????????,%_????????????:#@?=?\
+    ?abcdefghi???????jklmnopqr????????stuvwxyz??????????????????????\
+    ?ABCDEFGHI???????JKLMNOPQR????????STUVWXYZ??????0123456789??????";
 
 /// A job as its program is shown.
 #[derive(Drop)]
@@ -61,7 +36,8 @@ impl<'a> Shown<'a> {
         Ok(Shown { job, stored })
     }
 
-    /// What the operation that begins at a place sets, if no reachable CCW stores over its argument.
+    /// What the operation that begins at a place sets, if no reachable CCW stores over what it
+    /// takes that from.
     pub(crate) fn setting_of(&self, look: &Look) -> Option<Setting> {
         let data = data_of(&look.ccw()?);
         if self.stored.meets(data.start, data.len) {
@@ -148,17 +124,10 @@ fn is_text(storage: &Storage, start: u32, len: u32) -> bool {
 
 /// The character of a code of EBCDIC, in ASCII.
 fn character_of(code: u8) -> Option<u8> {
-    for (first, last, character) in RUNS {
-        if *first <= code && code <= *last {
-            return Some(character.saturating_add(code.saturating_sub(*first)));
-        }
+    match CHARACTERS.get(usize::from(code.checked_sub(0x40)?)) {
+        None | Some(b'?') => None,
+        Some(character) => Some(*character),
     }
-    for (known, character) in CHARACTERS {
-        if *known == code {
-            return Some(*character);
-        }
-    }
-    None
 }
 
 /// Adds how many bytes a CCW's data has.

@@ -539,8 +539,8 @@ fn row_of(looks: &[Look], layout: &Layout, at: usize) -> Option<End> {
 }
 
 /// Where an arrow from one row to another begins and ends: in one box at the rows, and else at the
-/// boxes, since it leads from the last row to the first. One that leads back ends at that row, which
-/// is far from where the arrow comes to the box.
+/// boxes, since it leads from the last row to the first. One that leads back ends at that row,
+/// which is far from where the arrow comes to the box.
 fn ends_of(looks: &[Look], layout: &Layout, from: usize, to: usize) -> Option<(End, End)> {
     let (from, to) = if layout.head(from) == layout.head(to) {
         (row_of(looks, layout, from)?, row_of(looks, layout, to)?)

@@ -182,8 +182,8 @@ fn push_order(out: &mut String, spot: &Spot<'_>, forms: &[Form]) -> Result<(), A
     }
 }
 
-/// If the text begins with a byte-order mark, or the line has a no-break blank or a tab, begins with
-/// a capital letter or ends with a carriage return, adds what is wrong with it.
+/// If the text begins with a byte-order mark, or the line has a no-break blank or a tab, begins
+/// with a capital letter or ends with a carriage return, adds what is wrong with it.
 fn push_bytes(out: &mut String, spot: &Spot<'_>) -> Result<(), AllocError> {
     if spot.before.last.is_none() && spot.found.starts_with(BYTE_ORDER_MARK) {
         out.push_str("; a byte-order mark comes before it")?;

@@ -9,12 +9,17 @@ const DECK_FRONT: &str = "chanv deck ";
 /// The note on an image that is a deck.
 const IS_DECK: &str = "note: this is a deck; chanv verify judges it\n";
 
-/// The note on an image in which no program was found.
-const HAS_NO_PROGRAM: &str =
+// The notes on an image in which no program was found: what to give that wasn't given.
+const GIVE_BOTH: &str =
     "note: no program found; if the image is a part of storage, give --at and --storage\n";
 
-/// The same, if its place in storage was given.
-const HAS_NONE_THERE: &str = "note: no program found\n";
+const GIVE_AT: &str =
+    "note: no program found; if the image begins at another address than 0, give --at\n";
+
+const GIVE_STORAGE: &str =
+    "note: no program found; if storage goes on behind the image, give --storage\n";
+
+const GIVE_NOTHING: &str = "note: no program found\n";
 
 /// Whether an image begins as a deck does.
 pub(crate) fn is_deck(image: &[u8]) -> bool
@@ -31,16 +36,17 @@ pub fn deck_note(image: &[u8]) -> &'static str
 }
 
 /// The note on an image that was searched for programs, and that has some or none; whether its
-/// place in storage was given.
-pub fn find_note(image: &[u8], has_programs: bool, is_placed: bool) -> &'static str
-    ensures { result.now ≡ notes.find_note image.now has_programs is_placed }
+/// address was given, and the size of storage.
+pub fn find_note(image: &[u8], has_programs: bool, is_placed: bool, is_sized: bool) -> &'static str
+    ensures { result.now ≡ notes.find_note image.now has_programs is_placed is_sized }
 {
     if is_deck(image) || has_programs {
         return deck_note(image);
     }
-    if is_placed {
-        HAS_NONE_THERE
-    } else {
-        HAS_NO_PROGRAM
+    match (is_placed, is_sized) {
+        (false, false) => GIVE_BOTH,
+        (false, true) => GIVE_AT,
+        (true, false) => GIVE_STORAGE,
+        (true, true) => GIVE_NOTHING,
     }
 }

@@ -1,6 +1,6 @@
 -- The programs that are found in an image of storage, a line for each.
 use Rattle.std.specs.Prelude.{◌≡◌, ◌⊎◌, ◌<◌, ◌-◌, ℕ, Bool, not, List, [], ◌∷◌, ◌++◌, take}
-use Rattle.std.specs.Prelude.{◌||◌, Option, Some, None, is_some, nat_eq}
+use Rattle.std.specs.Prelude.{Option, Some, None, is_some, nat_eq}
 use Rattle.chan_deck.specs.Reading.{is_empty}
 use Rattle.std.specs.Io.KnownBytes.{Appends}
 use Rattle.ccw_core.specs.Written.{AppendsPrefix}
@@ -92,15 +92,11 @@ IsSearchOutput o image old new (Failed failures.OutOfMemory) =
     × (n : ℕ) × AreWritten (Appends old new) o image (take n starts))
 IsSearchOutput o image old new _ = ⊥
 
--- the address of the image or the size of storage was given
-abbrev pub is_placed : ImageOptions → Bool
-is_placed o = not (nat_eq o.at 0) || is_some o.size
-
 -- the note on an image that was searched, by what came of the search
 abbrev pub IsFindNote : ImageOptions → List ℕ → Outcome → List ℕ → Type 0
 IsFindNote o image Done note =
     (starts : List ℕ) × AreStartsInImage o image starts
-    × (note ≡ find_note image (not (is_empty starts)) (is_placed o))
+    × (note ≡ find_note image (not (is_empty starts)) (not (nat_eq o.at 0)) (is_some o.size))
 IsFindNote o image outcome note = note ≡ deck_note image
 
 -- the input was read to its end, and its image was searched: only the end is left to be delivered

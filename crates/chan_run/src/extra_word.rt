@@ -8,7 +8,7 @@ const UNEXPECTED: &str = "error: unexpected argument '";
 /// The same of an option.
 const UNEXPECTED_OPTION: &str = "error: unexpected argument '-";
 
-/// What is said in its place for `deck` if an address stands where the FILE does, around that address.
+/// What is said in its place for `deck` if an address stands where the FILE does, around it.
 const ONE_OF_DECK: &str = "error: chanv deck takes one FILE, and '";
 
 const GIVE_START: &str = "' is taken for it; give the address as --start ";

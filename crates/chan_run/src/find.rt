@@ -5,7 +5,7 @@ ghost use Rattle.std.specs.Prelude.{string_bytes};
 ghost use Rattle.ccw_core.specs.Held.{bytes_held};
 ghost use Rattle.chan_deck.specs.PartsImage.{storage_with};
 ghost use Rattle.chan_run.specs.Find.{IsFindDelivered, IsFindNote, IsFindResponse, IsSearchOutput};
-ghost use Rattle.chan_run.specs.Find.{IsJudgedAt, IsLineAt, is_placed};
+ghost use Rattle.chan_run.specs.Find.{IsJudgedAt, IsLineAt};
 ghost use Rattle.chan_run.specs.Name.{name_in};
 ghost use Rattle.chan_run.specs.Outcome.{IsCarriedOut, IsWriteFailure};
 ghost use Rattle.chan_run.specs.declared.failure.Failure.TheVariants as failures;
@@ -145,17 +145,13 @@ fn write_programs<W: Write>(
             return (Outcome::Failed(Failure::WriteFailed), deck_note(image));
         }
     }
-    (
-        Outcome::Done,
-        find_note(image, !starts.is_empty(), is_placed(options)),
-    )
-}
-
-/// Whether the address of the image or the size of storage was given.
-fn is_placed(options: &ImageOptions) -> bool
-    ensures { result ≡ is_placed options.now }
-{
-    options.at != 0 || options.size.is_some()
+    let note = find_note(
+        image,
+        !starts.is_empty(),
+        options.at != 0,
+        options.size.is_some(),
+    );
+    (Outcome::Done, note)
 }
 
 /// The line of the program that begins at an address in storage. `left` is how many places may
