@@ -227,6 +227,9 @@ def check_packages(checks, strip):
     page, (first, second) = text_of(ROOT / "rustc/README.md"), strip.OLDEST
     said = re.findall(r"Rust (\S+) or later serves: on\nDebian 12 the packages (.*)\.", page)
     names = " and ".join(f"`{name}`" for name in strip.COMPILER)
+    line = f"{' '.join(strip.COMPILER)} librust-{{{','.join(strip.NEEDED)}}}-dev"
+    found = re.findall(r"(?m)^    apt-get install make gcc python3 (.*)$", page)
+    checks.expect("the packages of README", [line], found)
     checks.expect("the compiler of README", [(f"{first}.{second}", names)], said)
     with tempfile.TemporaryDirectory() as room:
         strip.DEBIAN = Path(room)
