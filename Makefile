@@ -69,14 +69,14 @@ CC = $(CROSS)gcc
 export CARGO_TARGET_$(shell echo $(TARGET) | tr a-z- A-Z_)_LINKER = $(CC)
 endif
 
-# Its groups of sections are dissolved: if a program has a group of the same name, the linker would
-# drop the library's.
+# The library's groups of sections are dissolved: if a program has a group of the same name, the
+# linker would drop the library's. What Rust's own library has for debuggers is dropped.
 rustc: can_rustc
 	rustc/strip.py out/rustc
 	cd out/rustc && cargo build --quiet --profile $(PROFILE) -p chanv -p chanv_c \
 	  $(addprefix --target ,$(TARGET))
 	$(MAKE) --no-print-directory link OUT=$(NOT_PROVED) \
-	  PARTS="--force-group-allocation $(BY_CARGO)/libchanv_c.a"
+	  PARTS="--strip-debug --force-group-allocation $(BY_CARGO)/libchanv_c.a"
 	cp $(BY_CARGO)/chanv-rustc $(NOT_PROVED)/chanv
 	@echo "chanv and its library are in $(NOT_PROVED), and nothing of them is proved"
 

@@ -251,7 +251,10 @@ def write(path, text):
     if path.exists() and path.read_text() == text:
         return False
     path.parent.mkdir(parents=True, exist_ok=True)
-    path.write_text(text)
+    # at once, because another cargo may read
+    whole = path.with_name(f".{path.name}.{os.getpid()}")
+    whole.write_text(text)
+    whole.replace(path)
     return True
 
 

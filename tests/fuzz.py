@@ -33,10 +33,15 @@ FOUND = ROOT / "out/fuzz"
 
 def built(*words, **how):
     """Builds the harnesses in Rust, and the library for C, with all overflows checked."""
-    crate = cargo.workspace() / "chan_fuzz"
-    (crate / "src").mkdir(parents=True, exist_ok=True)
-    for path in (FOLDER / "Cargo.toml", *(FOLDER / "src").iterdir()):
-        cargo.stripping().write(crate / path.relative_to(FOLDER), path.read_text())
+    crate, strip = cargo.workspace() / "chan_fuzz", cargo.stripping()
+    sources = [FOLDER / "Cargo.toml", *(FOLDER / "src").iterdir()]
+    with tempfile.TemporaryDirectory(dir=crate.parent) as room:
+        # a folder of the workspace comes whole, because another cargo may read
+        for to in (Path(room) / "made", crate):
+            for path in sources:
+                strip.write(to / path.relative_to(FOLDER), path.read_text())
+            if not crate.exists():
+                to.rename(crate)
     cargo.cargo("build", *cargo.CHECKED, *words, "-p", "chan_fuzz", "-p", "chanv_c", **how)
 
 

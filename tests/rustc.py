@@ -227,6 +227,9 @@ def check_packages(checks, strip):
     page, (first, second) = text_of(ROOT / "rustc/README.md"), strip.OLDEST
     said = re.findall(r"Rust (\S+) or later serves: on\nDebian 12 the packages (.*)\.", page)
     names = " and ".join(f"`{name}`" for name in strip.COMPILER)
+    line = f"{' '.join(strip.COMPILER)} librust-{{{','.join(strip.NEEDED)}}}-dev"
+    found = re.findall(r"(?m)^    apt-get install make gcc python3 (.*)$", page)
+    checks.expect("the packages of README", [line], found)
     checks.expect("the compiler of README", [(f"{first}.{second}", names)], said)
     with tempfile.TemporaryDirectory() as room:
         strip.DEBIAN = Path(room)
@@ -240,9 +243,8 @@ def check_fetching(checks):
         no_network = {"CARGO_HOME": room, "CARGO_HTTP_PROXY": "http://127.0.0.1:9"}
         environment = {**os.environ, **no_network}
         ran = run(sys.executable, "-B", "-c", script, env=environment, timeout=10)
-    first, *rest = ran.error.splitlines()
-    is_so = ran.status == 1 and first.startswith("rustc/strip.py: no crates come from crates.io: ")
-    is_so = is_so and len(rest) == 1 and rest[0].startswith("on Debian 12: apt-get install librust-")
+    says = "rustc/strip.py: no crates come from crates.io: .*\non Debian 12: apt-get install librust-"
+    is_so = ran.status == 1 and re.match(says, ran.error)
     checks.expect_that("what the script says without crates", is_so, ran)
 
 
