@@ -15,7 +15,7 @@ _chanv() {
         no-job-will-do write-failed out-of-memory not-a-ccw no-such-word'
     local output='yes no place fresh in out search t flags invalid control read write read-backward
         transfer chained unknown no-ccw because also extent fetch store keep kept lent job deck
-        image put device start end storage argument cylinder head record key guarded clear fetches stores skips found expected note help
+        image dump put device start end storage argument cylinder head record key guarded clear fetches stores skips found expected note help
         transfer-in-channel'
     local commands_of_disk='no-operation seek seek-cylinder seek-head recalibrate set-file-mask sense
         search-home-address-equal search-id-equal search-id-high search-id-equal-or-high

@@ -32,7 +32,7 @@ DECKS = {
 }
 WIDE = """\
    address   entered  flags   data            command              does
-   000800    fresh    -C---0  000900-000904   search-id-equal      fetches 5 bytes until found (cylinder 0, head 0, record 0)
+   000800    fresh    -C---0  000900-000904   search-id-equal      start, fetches 5 bytes until found (cylinder 0, head 0, record 0)
    000808    fresh    -----0  -> 000800       transfer-in-channel
    000810    fresh    --L--0  000A00-000A4F   read-data            stores 80 bytes, SLI
 yes

@@ -4,13 +4,13 @@
 
 A search loop is a search under chain command and, eight bytes on, a transfer. It fits if the image
 begins at the transfer's target less the search's offset, which is below 0 if so many bytes come
-before the one at address 0. Standard error has a note exactly if one address besides --at fits more
-loops than each other one, and at least two, or one where none fits --at and the loop leads to zeros
-or out of the image. The loops are read anew here, over the bytes: of an image cut at twenty places, of noise, of loops that agree on a wrong address,
-of ties, and of images with no loop. Over each cut image the address that the note names then brings
-the programs of the whole image, and no note; so does the command that it names over an image with
-bytes before its own. Decks that are made of an image get the same note. Last come images that are
-text.
+before the one at address 0. Standard error has a note exactly if one address besides --at fits at
+least two loops, and none more, or one loop alone where none fits --at and it leads to zeros or out
+of the image. The loops are read anew here, over the bytes: of an image cut at twenty places, of
+noise, of loops that agree on a wrong address, of ties, and of images with no loop. Over each cut
+image the address that the note names then brings the programs of the whole image, and no note; so
+does the command that it names over an image with bytes before its own. Decks that are made of an
+image get the same note. Last come images that are text, and files of other forms.
 """
 
 import gzip
@@ -67,21 +67,22 @@ def note_of(image, at=0):
     here = counts.pop(at, 0)
     most = max(counts.values(), default=0)
     likely = [begins for begins, count in counts.items() if count == most]
-    if len(likely) != 1 or most <= min(here, 1):
+    if not likely or len(likely) > 1 == most or most <= min(here, 1):
         return ""
+    likely.sort()
     target = dict(loops)[likely[0]] - at
     if most == 1 and target >= 0 and any(word := image[target : target + 8]) and len(word) == 8:
         return ""
-    other = " other" if most <= here else ""
-    return f"note: {most}{other} {fitting(most, likely[0])}\n"
+    are_others = here > 1 or most <= here
+    return f"note: {most}{' other' * are_others} {fitting(most, likely[0], are_others)}\n"
 
 
-def fitting(count, begins):
+def fitting(count, begins, are_others=False):
     fit = "search loop fits if" if count == 1 else "search loops fit if"
     if begins < 0:
-        drop = f"drop those before it, by tail -c +{1 - begins}"
+        drop = f"drop the bytes before it, by tail -c +{1 - begins}"
         return f"{fit} byte {-begins:06X} of the image is at 000000: {drop}"
-    verb = "try" if count == 1 else "say"
+    verb = "judge their part by" if are_others else "try" if count == 1 else "say"
     return f"{fit} the image begins at {begins:06X}: {verb} --at {begins:X}"
 
 
@@ -139,7 +140,7 @@ CASES = [
     ("no loop", bytes(0x100), 0, None),
     ("no byte", b"", 0, None),
     ("two loops at odd places", image_of_preamble(0x100, [(3, ODD), (0x43, ODD)]), 0, ODD),
-    ("a tie", image_of_preamble(0x100, [(0, 0x800), (16, 0x900), (32, 0x800), (48, 0x900)]), 0, None),
+    ("a tie", image_of_preamble(0x100, [(0, 0x800), (16, 0x900), (32, 0x800), (48, 0x900)]), 0, 0x800),
     ("as many as --at", image_of_preamble(0x100, [(0, 0), (16, 0), (32, 0x800), (48, 0x800)]), 0, 0x800),
     ("one more than --at", image_of_preamble(0x100, [(0, 0x800), (16, 0x800), (32, 0)]), 0, 0x800),
     (
@@ -150,7 +151,7 @@ CASES = [
     ),
     ("the majority at --at", image_of_preamble(0x100, [(0, 0x2000), (16, 0x2000)]), 0x2000, None),
     ("a second region", image_of_preamble(0x100, [*FIRST_REGION, (64, 0x800), (80, 0x800)]), 0, 0x800),
-    ("a tie of further regions", image_of_preamble(0x100, [*FIRST_REGION, (64, 8), (80, 16)]), 0, None),
+    ("two loops of further regions", image_of_preamble(0x100, [*FIRST_REGION, (64, 8), (80, 16)]), 0, None),
     ("before storage", image_of_preamble(0x100, [(0x40, -8), (0x60, -8)]), 0, -8),
     ("one loop before storage", image_of_preamble(0x100, [(0x40, -8)]), 0, -8),
     ("past the largest storage", image_of_preamble(0x100, [(0, 0xFFFF08), (16, 0xFFFF08)]), 0, None),

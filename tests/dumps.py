@@ -54,6 +54,7 @@ FORMS = [
 # forms that are refused at a line, why, and a word of the text that the caret is under
 DIGIT, HALF = "not a hexadecimal digit", "a byte has two digits"
 STEP = "the bytes above don't end here"
+GAP = f"{STEP}; if none is missing, put an empty line between"
 SWAPPED = (
     "words of two bytes may be swapped; dump with od -Ax -tx1, or put a colon after each address"
 )
@@ -291,9 +292,9 @@ WRONG = [
     ("a repeat over a byte", "802 09\n800 07\n*\n803\n", 4, AGAIN, 0),
     ("a repeat over itself", "800 07\n*\n803 09\n800 07\n*\n803 09\n", 6, AGAIN, 0),
     ("a step that is too short", "800 07080910\n802 09101112\n", 2, STEP, 0),
-    ("a gap of one byte", "800 07 000900 40 0006\n808 08\n", 2, STEP, 0),
-    ("a lost byte", f"000 {'11' * 16}\n010 {'22' * 15}\n020 {'33' * 16}\n", 3, STEP, 0),
-    ("decimal addresses", f"000: {'11' * 16}\n016: {'22' * 16}\n", 2, STEP, 0),
+    ("a gap of one byte", "800 07 000900 40 0006\n808 08\n", 2, GAP, 0),
+    ("a lost byte", f"000 {'11' * 16}\n010 {'22' * 15}\n020 {'33' * 16}\n", 3, GAP, 0),
+    ("decimal addresses", f"000: {'11' * 16}\n016: {'22' * 16}\n", 2, GAP, 0),
     ("decimal addresses of seven digits", f"0000000 {'11' * 8}\n0000008 {'22' * 8}\n", 2, OCTAL, 6),
     ("an end before the end", "800 0708\n801\n", 2, STEP, 0),
     ("an end after the end", "800 0708\n803\n", 2, STEP, 0),

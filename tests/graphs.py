@@ -80,6 +80,7 @@ MOVES = re.compile(
 )
 SETTING = re.compile(r"  (\((?:cylinder|mask) [^)]*\))")
 STORED = re.compile(r"  stored over by (\w+)$")
+REPORTED = re.compile(r"(, SLI)?(, PCI)?(?:  until found .*)?(?:  stored over .*)?$")
 PINK, YELLOW, ENDLESS = "#FFE9E9", "#FFF6D5", "never ends by itself"
 
 
@@ -239,7 +240,7 @@ class Drawn:
         self.title = TITLE.match(text)[1]
         self.boxes, self.pink, self.left_out, self.until, self.moves = {}, {}, {}, {}, {}
         self.named, self.cells, self.settings, self.stored = set(), {}, {}, {}
-        self.endless = {}
+        self.endless, self.reported = {}, {}
         self.frames, frame = {}, None
         for line in text.splitlines():
             box, opened = BOX.fullmatch(line), FRAME.fullmatch(line)
@@ -293,6 +294,7 @@ class Drawn:
                 rows.append(row)
                 moves = MOVES.search(line)
                 self.moves[row] = (moves[1], moves[2]) if moves else None
+                self.reported[row] = "".join(REPORTED.search(line).groups(""))
                 setting, over = SETTING.search(line), STORED.search(line)
                 self.settings[row] = setting[1] if setting else None
                 if over:
@@ -329,6 +331,9 @@ def check_rows(checks, name, wanted, drawn):
     checks.expect(f"what the rows of {name} do with data", moves, drawn.moves)
     settings = {row: wanted.settings[row] for row in rows}
     checks.expect(f"what the rows of {name} set", settings, drawn.settings)
+    ccws = {row: ccw_at(wanted.storage, row.address) for row in rows}
+    reported = {row: reported_of(ccw) if ccw else "" for row, ccw in ccws.items()}
+    checks.expect(f"the flags of the rows of {name}", reported, drawn.reported)
     stored = {row: wanted.stored[row.address] for row in rows if row.address in wanted.stored}
     checks.expect(f"what stores over the rows of {name}", stored, drawn.stored)
     never = {box: (True, True) for box, rows in drawn.boxes.items() if rows[0] in wanted.endless}

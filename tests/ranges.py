@@ -4,7 +4,8 @@
 
 Over each example deck and over random jobs, the range goes from before the first reachable CCW to
 behind the last one. A doubleword behind one that chains data counts as a part of its chain, any
-other as a CCW that begins an operation, so a program with several mistakes is seen in one round.
+other as a CCW that begins an operation, so a program with several mistakes is seen in one round. A
+transfer to where no CCW can be counts as a mistake.
 Further rows are about the ends of a range, what isn't one, and several FILEs.
 """
 
@@ -21,7 +22,7 @@ from running import Ran, run, text_of
 sys.path.insert(0, str(HERE / "model"))
 
 from channel import ccw_at  # noqa: E402
-from judging import FRESH, Place, kind_at, own_fault  # noqa: E402
+from judging import FRESH, Place, first_place, kind_at, own_fault, successors  # noqa: E402
 from writing import job_of, row_of, setting_text, verdict_of  # noqa: E402
 
 SEED, JOBS = 83, 400
@@ -30,6 +31,10 @@ WAYS_BY_KIND = {"inward": "inward", "outward": "outward", "search": "search"}
 FORM = (
     "hexadecimal start and length or first and last byte, each at most FFFFFF, as 900+10 or 900-90F"
 )
+
+
+# the faults of a place to which a transfer leads that are the transfer's
+NOWHERE = ("misaligned", "outside-storage", "transfer-not-allowed")
 
 
 def entered_behind(place, ccw):
@@ -43,10 +48,13 @@ def rows_of(job, first, last):
     entered = FRESH
     for address in range(first // 8 * 8, min(last + 1, len(job.storage)), 8):
         place, ccw = Place(address, entered, False), ccw_at(job.storage, address)
-        fault = own_fault(job, place)
+        fault, at = own_fault(job, place), place
+        if ccw and ccw.is_transfer() and not fault:
+            [at] = successors(place, ccw)
+            fault = own_fault(job, at) if own_fault(job, at) in NOWHERE else None
         yield f"{row_of(job, place, fault)} {setting_text(job, place)}".rstrip()
         if fault:
-            yield f"because {CAUSES[fault](Case(job, {}, place, False, ccw))}"
+            yield f"because {CAUSES[fault](Case(job, {}, at, at == first_place(job), ccw))}"
         entered = entered_behind(place, ccw)
 
 

@@ -6,7 +6,7 @@ Of each example deck and of 600 random jobs: after a header there is a row for e
 entry that the model reaches, in the order of `chanv list`, and the verdict's line is last. A row
 has the address, indented if a data chain leads there; the way of entry; the flags; the data as a
 range, or where a transfer leads; the name, `-` where the code doesn't count; and what the CCW does,
-with the number of bytes, what a search compares, SLI and PCI.
+with the number of bytes, what a search compares, SLI and PCI, and whether the program starts there.
 The rows of the places that offend, and no others, are marked `=>` and end with the reasons. Each
 column begins at its heading. Without --wide the listing stays as `decks` and `model` have it.
 """
@@ -41,6 +41,7 @@ from writing import (  # noqa: E402
     compared_by,
     deck_of,
     known_setting,
+    parts_said,
     reported_of,
 )
 
@@ -125,7 +126,14 @@ def is_repeated(job, faults, place):
 
 
 def deed_of(job, faults, place):
-    setting, ccw = known_setting(job, faults, place), ccw_at(job.storage, place.address)
+    ccw = ccw_at(job.storage, place.address)
+    is_start = (place.address, place.entered) == (job.start, FRESH)
+    done = done_by(job, faults, place, ccw)
+    return parts_said(is_start, done, reported_of(ccw) if ccw else "")
+
+
+def done_by(job, faults, place, ccw):
+    setting = known_setting(job, faults, place)
     if setting and "mask" in setting:
         return f"sets mask {setting['mask']:02X}"
     if setting:
@@ -134,7 +142,7 @@ def deed_of(job, faults, place):
     if not verb:
         return ""
     until = " until found" if is_repeated(job, faults, place) else ""
-    return f"{verb}{amount_of(ccw)}{until}{compared_by(job, faults, place)}{reported_of(ccw)}"
+    return f"{verb}{amount_of(ccw)}{until}{compared_by(job, faults, place)}"
 
 
 def row_of(answer, place):
@@ -218,7 +226,7 @@ TWO_WAYS = [
 ]
 TWO_WAYS_LISTED = f"""\
 {HEADER}
-   000800    fresh    D----0  008000-00800F   read-data            stores 16 bytes
+   000800    fresh    D----0  008000-00800F   read-data            start, stores 16 bytes
    000808    fresh    -CL--0  008100-00810F   read-data            stores 16 bytes, SLI
      000808  in       -CL--0  008100-00810F   -                    stores 16 bytes, SLI
 =>   000808  out      -CL--0  008100-00810F   -                    fetches 16 bytes, SLI: fetch-not-lent

@@ -172,11 +172,25 @@ def amount_of(ccw):
 
 
 def reported_of(ccw):
+    if ccw.is_transfer():
+        return ""
     return ", SLI" * bool(ccw.flags & 0x20) + ", PCI" * bool(ccw.flags & 0x08)
 
 
 def deed_of(job, faults, place, ccw):
-    """What the CCW at a place does: what it sets, or what it does with its data."""
+    """What the CCW at a place does, whether the program starts there, and its flags."""
+    is_start = (place.address, place.entered) == (job.start, FRESH)
+    done = done_by(job, faults, place, ccw) if ccw else ""
+    return parts_said(is_start, done, reported_of(ccw) if ccw else "")
+
+
+def parts_said(is_start, done, reported):
+    """The parts of the last column, with a comma between two."""
+    return ", ".join(filter(None, ["start" * is_start, done, reported.removeprefix(", ")]))
+
+
+def done_by(job, faults, place, ccw):
+    """What the CCW at a place sets, or what it does with its data."""
     setting = known_setting(job, faults, place) or {}
     if "mask" in setting:
         return f"sets mask {setting['mask']:02X}"
@@ -184,7 +198,7 @@ def deed_of(job, faults, place, ccw):
         return f"seeks cylinder {setting['cylinder']}, head {setting['head']}"
     if ccw.is_transfer() or ccw.count == 0:
         return ""
-    behind = compared_by(job, faults, place) + reported_of(ccw)
+    behind = compared_by(job, faults, place)
     if does_store(place, ccw):
         return f"stores{amount_of(ccw)}{behind}"
     if not does_fetch(place, ccw):
@@ -217,7 +231,7 @@ def wide_rows(job, faults, found):
         if is_twin:
             continue
         reasons = ", ".join(reason for at, reason in found if at == place)
-        does = deed_of(job, faults, place, ccw) if ccw else ""
+        does = deed_of(job, faults, place, ccw)
         does = ": ".join(filter(None, [does, reasons]))
         flags, data, name = "-", "-", "no-ccw"
         if ccw:

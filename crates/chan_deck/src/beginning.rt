@@ -32,12 +32,9 @@ pub fn image_notes(alloc: Global, at: u32, image: &[u8]) -> Result<Vec<u8>, Allo
     if let Some((likely, votes)) = most_voted(&loops, here) {
         let is_sure = votes > 1 || (fit_here == 0 && !leads_to_bytes(image, at, likely.target));
         if is_sure {
-            push_loops(
-                &mut text,
-                votes,
-                if votes > fit_here { "" } else { " other" },
-            )?;
-            push_begin(&mut text, likely.begin, votes)?;
+            let are_others = fit_here > 1 || votes <= fit_here;
+            push_loops(&mut text, votes, are_others)?;
+            push_begin(&mut text, likely.begin, verb_of(votes, are_others))?;
         }
     }
     Ok(text.into_bytes())
@@ -56,9 +53,9 @@ fn leads_to_bytes(image: &[u8], at: u32, address: u32) -> bool {
 }
 
 /// Adds that so many search loops fit.
-fn push_loops(text: &mut String, votes: usize, other: &str) -> Result<(), AllocError> {
+fn push_loops(text: &mut String, votes: usize, are_others: bool) -> Result<(), AllocError> {
     write!(text, "note: {votes}")?;
-    text.push_str(other)?;
+    text.push_str(if are_others { " other" } else { "" })?;
     text.push_str(if votes == 1 {
         " search loop fits if "
     } else {
@@ -66,12 +63,22 @@ fn push_loops(text: &mut String, votes: usize, other: &str) -> Result<(), AllocE
     })
 }
 
-/// Adds where the image then begins, and what to say. A single loop may be one by accident.
-fn push_begin(text: &mut String, begin: u32, votes: usize) -> Result<(), AllocError> {
+/// What to do. A single loop may be one by accident, and others are those of a second region.
+fn verb_of(votes: usize, are_others: bool) -> &'static str {
+    if are_others {
+        "judge their part by"
+    } else if votes == 1 {
+        "try"
+    } else {
+        "say"
+    }
+}
+
+/// Adds where the image then begins, and what to do.
+fn push_begin(text: &mut String, begin: u32, verb: &str) -> Result<(), AllocError> {
     let Some(address) = begin.checked_sub(STORAGE_LIMIT) else {
         return push_front(text, STORAGE_LIMIT.saturating_sub(begin));
     };
-    let verb = if votes == 1 { "try" } else { "say" };
     write!(
         text,
         "the image begins at {address:06X}: {verb} --at {address:X}\n"
@@ -84,7 +91,7 @@ fn push_front(text: &mut String, bytes: u32) -> Result<(), AllocError> {
     let first = bytes.saturating_add(1);
     write!(
         text,
-        "byte {bytes:06X} of the image is at 000000: drop those before it, by tail -c +{first}\n"
+        "byte {bytes:06X} of the image is at 000000: drop the bytes before it, by tail -c +{first}\n"
     )?;
     Ok(())
 }
@@ -164,7 +171,7 @@ fn loop_target(bytes: &[u8]) -> Option<u32> {
 }
 
 /// A loop of those that agree on a beginning, more than on any other besides this one, and how many
-/// they are.
+/// they are. Of several beginnings with as many, each more than one, the first counts.
 fn most_voted(sorted: &[SearchLoop], without: u32) -> Option<(SearchLoop, usize)> {
     let (mut found, mut most, mut run) = (None, 0usize, 0usize);
     for at in 0..sorted.len() {
@@ -178,7 +185,7 @@ fn most_voted(sorted: &[SearchLoop], without: u32) -> Option<(SearchLoop, usize)
         }
         if run > most {
             (found, most) = (Some((sorted[at], run)), run);
-        } else if run == most {
+        } else if run == most && most == 1 {
             found = None;
         }
     }

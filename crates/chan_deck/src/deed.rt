@@ -138,12 +138,26 @@ pub(crate) fn push_amount(out: &mut String, ccw: Ccw) -> Result<(), AllocError> 
 }
 
 /// Adds the flags of a CCW that change what is reported of it: SLI and PCI.
-pub(crate) fn push_reported(out: &mut String, ccw: Ccw) -> Result<(), AllocError> {
+pub(crate) fn push_reported(out: &mut String, look: &Look) -> Result<(), AllocError> {
+    let Some(ccw) = look.ccw() else {
+        return Ok(());
+    };
+    if ccw.is_transfer() {
+        return Ok(());
+    }
     if ccw.flags() & CcwFlags::SLI.bits() != 0 {
-        out.push_str(", SLI")?;
+        push_part(out, "SLI")?;
     }
     if ccw.flags() & CcwFlags::PCI.bits() != 0 {
-        out.push_str(", PCI")?;
+        push_part(out, "PCI")?;
     }
     Ok(())
+}
+
+/// Adds a part to a text of parts with a comma and a blank between two.
+pub(crate) fn push_part(out: &mut String, part: &str) -> Result<(), AllocError> {
+    if !out.is_empty() {
+        out.push_str(", ")?;
+    }
+    out.push_str(part)
 }

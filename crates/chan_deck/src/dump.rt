@@ -21,6 +21,8 @@ const AGAIN: &str = "the repeat goes over bytes of another line";
 
 const STEP: &str = "the bytes above don't end here";
 
+const GAP: &str = "the bytes above don't end here; if none is missing, put an empty line between";
+
 const REPEAT: &str = "it isn't known what is repeated, or how often";
 
 /// What a line begins with that may come between the lines of a dump and tells no bytes: headings
@@ -235,7 +237,7 @@ impl Reading {
             self.repeat(address, len == 0, front.column)?;
         }
         if !self.may_be_at(address, len) {
-            return Err(Fault::At(STEP, front.column));
+            return Err(Fault::At(self.step(address, len), front.column));
         }
         if len == 0 {
             return Ok(());
@@ -271,6 +273,14 @@ impl Reading {
                 row.len == self.widest && gap.checked_rem(row.len) == Some(0)
             }
             Some(gap) => gap > 1,
+        }
+    }
+
+    /// What is said of a line with so many bytes that may not have this address.
+    fn step(&self, address: usize, len: usize) -> &'static str {
+        match self.row {
+            Some(row) if row.end < address && len > 0 => GAP,
+            _ => STEP,
         }
     }
 

@@ -295,9 +295,8 @@ fn push_data(
         write!(out, "  {verb:<7} {range},")?;
         push_amount(out, ccw)?;
         shown.push_compared(out, look)?;
-        push_reported(out, ccw)?;
     }
-    Ok(())
+    push_reported(out, look)
 }
 
 /// Adds by which transfer a row is repeated until it is found, and which CCW stores over it.

@@ -6,14 +6,15 @@ use crate::explanation::push_setting;
 use crate::listing::push_words;
 use crate::texts::push_verdict;
 use ccw_core::Area;
-use chan_walk::{Entry, Job, Look, Place, Verdict, look_at, setting_at};
+use chan_walk::{Entry, Evidence, Job, Look, Place, Verdict, look_at, setting_at};
 use ckd_core::Kind;
 use std::alloc::{AllocError, Global};
 
 /// The listing of a range of a job's storage, and the line of the job's verdict: a row for each
 /// doubleword that has a byte in the range, up to the end of storage. Where one chains data, the
 /// next counts as a part of its chain; any other counts as a CCW that begins an operation. The row
-/// of a CCW with a fault of its own is marked, and its cause follows. An error means that an
+/// of a CCW with a fault of its own is marked, and its cause follows; so is that of a transfer that
+/// leads to where no CCW can be. An error means that an
 /// allocation failed.
 pub fn range_text(
     alloc: Global,
@@ -45,7 +46,7 @@ fn place_at(address: u32, entered: Entry) -> Place {
 
 /// Adds the row of what stands at a place, with what is set there, and the cause if it is a fault.
 fn push_look(alloc: Global, out: &mut String, job: &Job, look: &Look) -> Result<(), AllocError> {
-    let fault = look.fault();
+    let fault = look.fault().or(fault_behind(job, look));
     push_words(
         out,
         look.place(),
@@ -61,6 +62,21 @@ fn push_look(alloc: Global, out: &mut String, job: &Job, look: &Look) -> Result<
         out.push('\n')?;
     }
     Ok(())
+}
+
+/// The fault for which no CCW can be where a transfer leads, if one stands there.
+fn fault_behind(job: &Job, look: &Look) -> Option<Evidence> {
+    if !look.ccw()?.is_transfer() {
+        return None;
+    }
+    match look_at(job, look.next().next?).fault() {
+        Some(
+            fault @ (Evidence::Misaligned { .. }
+            | Evidence::OutsideStorage { .. }
+            | Evidence::TransferNotAllowed { .. }),
+        ) => Some(fault),
+        _ => None,
+    }
 }
 
 /// How the doubleword behind one is entered, if the first one goes on to it.

@@ -4,7 +4,7 @@
 ghost use Rattle.std.specs.Prelude.{IfOk, string_bytes};
 ghost use Rattle.chan_deck.specs.Listing.{IsWideListing};
 
-use crate::deed::{Shown, push_amount, push_reported};
+use crate::deed::{Shown, push_amount, push_part, push_reported};
 use crate::graph::{name_at, verb_at};
 use crate::layout::{Scene, first_offence, first_twin, row_at};
 use crate::listing::way_word;
@@ -67,29 +67,35 @@ fn push_columns(alloc: Global, out: &mut String, ccw: Option<Ccw>) -> Result<(),
     end_column(out, begun, 15)
 }
 
-/// Adds what the CCW of a look does: what it sets, or what it does with its data.
+/// Adds what the CCW of a look does: what it sets, or what it does with its data; and before it that
+/// the program starts there.
 fn push_deed(out: &mut String, shown: &Shown, looks: &[Look], at: usize) -> Result<(), AllocError> {
     let Some(look) = looks.get(at) else {
         return Ok(());
     };
-    match shown.setting_of(look) {
-        Some(Setting::Arm(Track { cylinder, head })) => {
-            return write!(out, "seeks cylinder {cylinder}, head {head}");
+    let place = look.place();
+    if place.address == shown.job.start && place.entered == Entry::Fresh {
+        push_part(out, "start")?;
+    }
+    match (shown.setting_of(look), verb_at(look), look.ccw()) {
+        (Some(Setting::Arm(Track { cylinder, head })), _, _) => {
+            push_part(out, "seeks cylinder ")?;
+            write!(out, "{cylinder}, head {head}")?;
         }
-        Some(Setting::Mask(byte)) => {
+        (Some(Setting::Mask(byte)), _, _) => {
+            push_part(out, "sets mask ")?;
             let byte = Digits(byte);
-            return write!(out, "sets mask {byte}");
+            write!(out, "{byte}")?;
         }
-        None => (),
+        (None, Some(verb), Some(ccw)) => {
+            push_part(out, verb)?;
+            push_amount(out, ccw)?;
+            out.push_str(until_found(looks, at))?;
+            shown.push_compared(out, look)?;
+        }
+        _ => (),
     }
-    if let (Some(verb), Some(ccw)) = (verb_at(look), look.ccw()) {
-        out.push_str(verb)?;
-        push_amount(out, ccw)?;
-        out.push_str(until_found(looks, at))?;
-        shown.push_compared(out, look)?;
-        push_reported(out, ccw)?;
-    }
-    Ok(())
+    push_reported(out, look)
 }
 
 /// What is said of a search that a transfer repeats.

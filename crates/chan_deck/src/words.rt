@@ -223,7 +223,7 @@ end",
 ];
 
 /// The rows of the other words, which come after these. The checker can't read both as one table.
-pub const WORDS_IN_SHORT: [&'static str; 122] = [
+pub const WORDS_IN_SHORT: [&'static str; 123] = [
     "yes: no run of the program does harm, whatever the disk holds",
     "no: the CCW at this address offends, for this reason",
     "place: a CCW together with the way in which the program enters it",
@@ -271,6 +271,7 @@ pub const WORDS_IN_SHORT: [&'static str; 122] = [
     "job: a channel program before its start, with everything that it may use",
     "open job: the job that grants everything: mask C0, cylinders 0 to 202, and all of storage",
     "least job: the job that grants exactly what the program needs",
+    "dump: main storage as text, an address and bytes a line; find and deck read it as an image",
     "image: main storage as raw bytes, or as a dump in text; `chanv deck` makes a deck of it",
     "argument: the bytes that a seek (bin, cylinder, head), a search or a Set File Mask takes",
     "cylinder: where a seek moves the arm, 0 to 202",

@@ -156,6 +156,7 @@ fn why_no_job(
     name: Option<&str>,
     options: &ImageOptions,
     image: &[u8],
+    given: usize,
     explanation: &str,
 ) -> Result<Vec<u8>, AllocError>
     requires { HoldsOfOpenJob options.now image.now (λ k. IsExplainedOpenly k explanation.now) }
@@ -163,7 +164,8 @@ fn why_no_job(
         IsNoJobAdvice (name_in name.entry) options.now image.now (Some why.items)) }
 {
     let mut why = no_job_text(alloc, name, explanation)?.into_bytes();
-    let notes = image_notes(alloc, options.at, image)?;
+    let read = image.get(..given).unwrap_or(image);
+    let notes = image_notes(alloc, options.at, read)?;
     why.extend_from_slice(notes.as_slice())?;
     Ok(why)
 }
@@ -181,11 +183,12 @@ fn respond_to_image(
     ensures known { IsImageEnd result.outcome }
 {
     let note = deck_note(image);
+    let read = image.get(..given).unwrap_or(image);
     match deck_text(alloc, options, image, given) {
         Ok(output) => Response {
             outcome: Outcome::Done,
             output,
-            advice: image_notes(alloc, options.at, image).ok(),
+            advice: image_notes(alloc, options.at, read).ok(),
             note,
         },
         Err(
@@ -194,7 +197,7 @@ fn respond_to_image(
                 reason,
                 why,
             },
-        ) => match why_no_job(alloc, name, options, image, why.as_str()) {
+        ) => match why_no_job(alloc, name, options, image, given, why.as_str()) {
             Ok(why) => Response {
                 outcome: Outcome::NoJob { address, reason },
                 output: Vec::new(alloc),

@@ -15,7 +15,7 @@ ghost use Rattle.ccw_core.specs.declared.ccw.TheConstants.{STORAGE_LIMIT};
 use crate::decks::room_advice;
 use crate::delivery::deliver;
 use crate::failure::Failure;
-use crate::image::read_image;
+use crate::image::{WholeImage, read_image};
 use crate::image_options::ImageOptions;
 use crate::least_job::job_at;
 use crate::outcome::Outcome;
@@ -86,7 +86,7 @@ fn search_image<R: Read, W: Write>(
             Response {
                 outcome,
                 output: Vec::new(alloc),
-                advice: notes_on_image(alloc, outcome, options.at, image.bytes.as_slice()),
+                advice: notes_on_image(alloc, outcome, options.at, bytes_read(&image)),
                 note,
             }
         }
@@ -97,6 +97,11 @@ fn search_image<R: Read, W: Write>(
             note: "",
         },
     }
+}
+
+/// The bytes of an image that were read.
+fn bytes_read(image: &WholeImage) -> &[u8] {
+    image.bytes.as_slice().get(..image.given).unwrap_or(&[])
 }
 
 /// The notes on an image that was searched, unless memory ran out for the search.

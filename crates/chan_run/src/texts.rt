@@ -22,7 +22,9 @@ pub(crate) fn write_bytes<W: Write>(bytes: &[u8], to: &mut Watched<W>) -> Result
 }
 
 /// Writes some texts, one after another: with one write, if together they have at most 4,096 bytes,
-/// which holds a line with any usual name; else each with a write of its own.
+/// which holds a line with any usual name; else each with a write of its own. It isn't inlined, so
+/// that the line's room on the stack is given back.
+#[inline(never)]
 pub(crate) fn write_texts<W: Write>(texts: &[&str], to: &mut Watched<W>) -> Result<(), DeviceFault>
     requires { to.old.failed ≡ false }
     ensures said { WriterGot (concatenated texts.now)
