@@ -89,10 +89,8 @@ fn push_begin(text: &mut String, begin: u32, verb: &str) -> Result<(), AllocErro
 /// Adds that so many bytes stand before the byte at address 0, and how to drop them.
 fn push_front(text: &mut String, bytes: u32) -> Result<(), AllocError> {
     let first = bytes.saturating_add(1);
-    write!(
-        text,
-        "byte {bytes:06X} of the image is at 000000: drop the bytes before it, by tail -c +{first}\n"
-    )?;
+    write!(text, "byte {bytes:06X} of the image is at 000000: ")?;
+    write!(text, "drop the bytes before it, by tail -c +{first}\n")?;
     Ok(())
 }
 

@@ -67,8 +67,8 @@ fn push_columns(alloc: Global, out: &mut String, ccw: Option<Ccw>) -> Result<(),
     end_column(out, begun, 15)
 }
 
-/// Adds what the CCW of a look does: what it sets, or what it does with its data; and before it that
-/// the program starts there.
+/// Adds what the CCW of a look does: what it sets, or what it does with its data; and before it
+/// that the program starts there.
 fn push_deed(out: &mut String, shown: &Shown, looks: &[Look], at: usize) -> Result<(), AllocError> {
     let Some(look) = looks.get(at) else {
         return Ok(());
