@@ -150,6 +150,16 @@ pub(crate) fn room_advice(
     }
 }
 
+/// The notes on an image, of which so many bytes were read.
+fn notes_on_read(
+    alloc: Global,
+    options: &ImageOptions,
+    image: &[u8],
+    given: usize,
+) -> Result<Vec<u8>, AllocError> {
+    image_notes(alloc, options.at, image.get(..given).unwrap_or(image))
+}
+
 /// Why no job will do for the program of an image, and the notes on the image.
 fn why_no_job(
     alloc: Global,
@@ -164,8 +174,7 @@ fn why_no_job(
         IsNoJobAdvice (name_in name.entry) options.now image.now (Some why.items)) }
 {
     let mut why = no_job_text(alloc, name, explanation)?.into_bytes();
-    let read = image.get(..given).unwrap_or(image);
-    let notes = image_notes(alloc, options.at, read)?;
+    let notes = notes_on_read(alloc, options, image, given)?;
     why.extend_from_slice(notes.as_slice())?;
     Ok(why)
 }
@@ -183,12 +192,11 @@ fn respond_to_image(
     ensures known { IsImageEnd result.outcome }
 {
     let note = deck_note(image);
-    let read = image.get(..given).unwrap_or(image);
     match deck_text(alloc, options, image, given) {
         Ok(output) => Response {
             outcome: Outcome::Done,
             output,
-            advice: image_notes(alloc, options.at, read).ok(),
+            advice: notes_on_read(alloc, options, image, given).ok(),
             note,
         },
         Err(
