@@ -9,18 +9,20 @@ use std::alloc::Global;
 
 const TWO_OFFENCES_LISTED: &str =
     "   address   entered  flags   data            command              does
-   000800    fresh    -C---0  000900-000905   seek                 seeks cylinder 12, head 3
-   000808    fresh    -C---0  000908-00090C   search-id-equal      fetches
-=> 000810    fresh    -----0  000B00-000B0F   read-data            stores: store-not-lent
+   000800    fresh    -C---0  000900-000905   seek                 start, seeks cylinder 12, head 3
+   000808    fresh    -C---0  000908-00090C   search-id-equal      fetches 5 bytes \
+    (cylinder 0, head 0, record 0)
+=> 000810    fresh    -----0  000B00-000B0F   read-data            stores 16 bytes: store-not-lent
 => 000818    fresh    -----0  000907          set-file-mask        sets mask C0: weakens-mask
 no 000810 store-not-lent
 ";
 
 const SEARCH_LOOP_LISTED: &str =
     "   address   entered  flags   data            command              does
-   000800    fresh    -C---0  000900-000904   search-id-equal      fetches until found
+   000800    fresh    -C---0  000900-000904   search-id-equal      start, fetches 5 bytes until \
+    found (cylinder 0, head 0, record 0)
    000808    fresh    -----0  -> 000800       transfer-in-channel
-   000810    fresh    --L--0  000A00-000A4F   read-data            stores
+   000810    fresh    --L--0  000A00-000A4F   read-data            stores 80 bytes, SLI
 yes
 ";
 
@@ -45,13 +47,15 @@ end
 
 const TWO_WAYS_LISTED: &str =
     "   address   entered  flags   data            command              does
-   000800    fresh    D----0  008000-00800F   read-data            stores
-   000808    fresh    -CL--0  008100-00810F   read-data            stores
-     000808  in       -CL--0  008100-00810F   -                    stores
-=>   000808  out      -CL--0  008100-00810F   -                    fetches: fetch-not-lent
-   000810    fresh    -C---0  004000-004004   search-id-equal      fetches
+   000800    fresh    D----0  008000-00800F   read-data            start, stores 16 bytes
+   000808    fresh    -CL--0  008100-00810F   read-data            stores 16 bytes, SLI
+     000808  in       -CL--0  008100-00810F   -                    stores 16 bytes, SLI
+=>   000808  out      -CL--0  008100-00810F   -                    fetches 16 bytes, SLI: \
+    fetch-not-lent
+   000810    fresh    -C---0  004000-004004   search-id-equal      fetches 5 bytes \
+    (cylinder 0, head 0, record 0)
    000818    fresh    -----0  -> 000808       transfer-in-channel
-   000820    fresh    D----0  004100-00410F   write-data           fetches
+   000820    fresh    D----0  004100-00410F   write-data           fetches 16 bytes
      000828  out      -----0  -> 000808       transfer-in-channel
 no 000808 fetch-not-lent
 ";

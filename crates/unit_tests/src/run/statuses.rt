@@ -33,15 +33,17 @@ also 001008 outside-storage
 const SEARCH_LOOP_PICTURE: &str = "digraph program {
   graph [label=\"yes\\n2314, mask 00, cylinders 10-19, storage 0001000\", labelloc=t, \
     fontname=\"sans-serif\", fontsize=12,
-    fontcolor=\"#006000\", ranksep=0.45, nodesep=0.4];
+    fontcolor=\"#006000\", ranksep=0.45, nodesep=0.4, newrank=true];
   node [shape=plain, fontname=\"monospace\", fontsize=10];
   edge [arrowsize=0.7, fontname=\"sans-serif\", fontsize=9];
-  start [shape=plaintext, fontname=\"sans-serif\", margin=0.03];
+  { rank=source; start [shape=plaintext, fontname=\"sans-serif\", margin=0.03]; }
   \"000800 fresh t\" [label=<<table border=\"1\" cellborder=\"0\" cellspacing=\"0\" \
     cellpadding=\"1\"><tr><td align=\"left\" port=\"row000800\">000800&#160;&#160;\
-    search-id-equal&#160;&#160;fetches&#160;000900-000904&#160;&#160;until&#160;found&#160;\
-    (TIC&#160;000808)</td></tr><tr><td align=\"left\" port=\"row000810\">000810&#160;&#160;\
-    read-data&#160;&#160;&#160;&#160;&#160;&#160;&#160;&#160;stores&#160;&#160;000A00-000A4F\
+    search-id-equal&#160;&#160;fetches&#160;000900-000904,&#160;5&#160;bytes&#160;\
+    (cylinder&#160;0,&#160;head&#160;0,&#160;record&#160;0)&#160;&#160;until&#160;found&#160;\
+    (TIC&#160;at&#160;000808)</td></tr><tr><td align=\"left\" port=\"row000810\">000810&#160;&#160;\
+    read-data&#160;&#160;&#160;&#160;&#160;&#160;&#160;&#160;stores&#160;&#160;000A00-000A4F,\
+    &#160;80&#160;bytes,&#160;SLI\
     </td></tr></table>>];
   start -> \"000800 fresh t\";
   \"end 000800 fresh t\" [label=end, shape=plaintext, fontname=\"sans-serif\", margin=0.03];
