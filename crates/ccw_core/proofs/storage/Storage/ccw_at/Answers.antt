@@ -33,7 +33,6 @@ returns c =
     let part = c.in_ok-get.ensures.lookup.0 in
     let chunk = c.in_ok-word.ensures.cases in
     let long : a + 8 ≤ n = omega arith in
-    let same : c.in_ok-word.word.now ≡ take 8 (drop a s) =
-        chunk.same ∙ ap (take 8) part.2 ∙ take-take 8 (n - a) (drop a s) (omega arith) in
+    let same : c.in_ok-word.word.now ≡ take 8 (drop a s) = chunk.same ∙ ap (take 8) part.2 ∙ take-take 8 (n - a) (drop a s) (omega arith) in
     let word : c.from_bytes.result ≡ ccw s a = c.from_bytes.ensures.fields ∙ ap (λ bs. ccw bs 0) same ∙ ccw-part s a in
     ap Some word ∙ sym (ccw_at-stands s a (omega arith) long)
