@@ -21,7 +21,7 @@ import rustc
 from building import FLAGS, HERE, NOT_PROVED, ROOT, must_succeed
 from expecting import Checks
 from library import LINED, check_lines
-from running import run
+from running import run, write_script
 
 COMPILER = ROOT / "out/machines"
 # the machines, and what runs a program of each by the name that follows; x86-64 itself runs i686's
@@ -53,8 +53,8 @@ class Machine:
 
     def started(self, path, program):
         """A program of this machine that runs one of the other, by the name it was called."""
-        path.write_text(f'#!/bin/sh\nexec {self.runner} "$0" {shlex.quote(str(program))} "$@"\n')
-        path.chmod(0o755)
+        words = f'{self.runner} "$0" {shlex.quote(str(program))} "$@"'
+        write_script(path, f"#!/bin/sh\nexec {words}\n")
         return path
 
 

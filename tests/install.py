@@ -23,7 +23,7 @@ from building import FLAGS, ROOT, compile_c, is_proved, said_version, short, ver
 from examples import EXAMPLES, SEARCH_LOOP
 from links_and_sizes import NAMED, broken_links
 from pages import EMBEDDING, check_page, shown_by
-from running import Ran, run, text_of
+from running import Ran, run, text_of, write_script
 
 PROGRAM = "crates/chanv/out/chanv"
 # the targets of make that `make rustc` has others for
@@ -192,9 +192,7 @@ def check_errors(checks, folder):
 
 def check_try(checks, folder):
     """`make try` judges the deck with that path, and a no is no error."""
-    script = folder / "rt"
-    script.write_text(RT)
-    script.chmod(0o755)
+    write_script(folder / "rt", RT)
     words = ["make", "-s", "-C", ROOT, "try", f"DECK={SEARCH_LOOP.relative_to(ROOT)}"]
     wanted = f"chanv try -- why\n{text_of(SEARCH_LOOP)}"
     for status in (0, 1, 2):

@@ -29,6 +29,14 @@ def run(*words, given=b"", **how):
     return ended(words, input=given, **how)
 
 
+def write_script(path, text):
+    """Writes a program that is to be run. Another process writes it: if a thread here wrote it while
+    a second one starts a process, that process would hold it open, and nothing can run it then."""
+    ran = run("sh", "-c", 'cat > "$0" && chmod 755 "$0"', path, given=text.encode())
+    if ran.status != 0:
+        raise OSError(ran.error)
+
+
 def run_in_bash(script, *words, **how):
     """Runs a script over a program and its words, as 'exec "$@" > /dev/full'."""
     return run("bash", "-c", script, "bash", *words, **how)
