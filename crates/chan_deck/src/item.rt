@@ -149,6 +149,7 @@ fn extent_of(line: &[u8]) -> Option<(u16, u16)>
 }
 
 /// The area behind a word.
+#[inline(always)]
 fn area_of(line: &[u8], word: &[u8]) -> Option<Area>
     ensures { MatchOption result
         ((a : Area) → IsArea a → line.now ≡ word.now ++ item.area_digits a → ⊥)
@@ -171,6 +172,7 @@ pub(crate) fn storage_of(line: &[u8]) -> Option<u32>
 }
 
 /// The address of a put, and its eight bytes as a number.
+#[inline(always)]
 pub(crate) fn put_of(line: &[u8]) -> Option<(u32, u64)>
     ensures { MatchOption result
         ((a : ℕ) (word : List ℕ) → LineSays line.now (put a word) → ⊥)
