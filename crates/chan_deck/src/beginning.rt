@@ -27,14 +27,11 @@ pub fn image_notes(alloc: Global, at: u32, image: &[u8]) -> Result<Vec<u8>, Allo
     text.push_str(form_note(image))?;
     let mut loops = search_loops(alloc, image)?;
     loops.sort_unstable();
-    let here = at.saturating_add(STORAGE_LIMIT);
-    let fit_here = votes_for(&loops, here);
-    if let Some((likely, votes)) = most_voted(&loops, here) {
-        let is_sure = votes > 1 || (fit_here == 0 && !leads_to_bytes(image, at, likely.target));
-        if is_sure {
+    let (fit_here, likely) = most_voted(&loops, at.saturating_add(STORAGE_LIMIT));
+    if let Some((likely, votes)) = likely {
+        if votes > 1 || (fit_here == 0 && !leads_to_bytes(image, at, likely.target)) {
             let are_others = fit_here > 1 || votes <= fit_here;
-            push_loops(&mut text, votes, are_others)?;
-            push_begin(&mut text, likely.begin, verb_of(votes, are_others))?;
+            push_beginning(&mut text, likely.begin, votes, are_others)?;
         }
     }
     Ok(text.into_bytes())
@@ -46,52 +43,40 @@ fn leads_to_bytes(image: &[u8], at: u32, address: u32) -> bool {
         return false;
     };
     let word: Option<&[u8; 8]> = image.get(offset as usize..).unwrap_or(&[]).first_chunk();
-    match word {
-        Some(word) => *word != [0; 8],
-        None => false,
-    }
+    word.is_some_and(|word| *word != [0; 8])
 }
 
-/// Adds that so many search loops fit.
-fn push_loops(text: &mut String, votes: usize, are_others: bool) -> Result<(), AllocError> {
-    write!(text, "note: {votes}")?;
-    text.push_str(if are_others { " other" } else { "" })?;
-    text.push_str(if votes == 1 {
-        " search loop fits if "
-    } else {
-        " search loops fit if "
-    })
-}
-
-/// What to do. A single loop may be one by accident, and others are those of a second region.
-fn verb_of(votes: usize, are_others: bool) -> &'static str {
-    if are_others {
-        "judge their part by"
-    } else if votes == 1 {
-        "try"
-    } else {
-        "say"
-    }
-}
-
-/// Adds where the image then begins, and what to do.
-fn push_begin(text: &mut String, begin: u32, verb: &str) -> Result<(), AllocError> {
-    let Some(address) = begin.checked_sub(STORAGE_LIMIT) else {
-        return push_front(text, STORAGE_LIMIT.saturating_sub(begin));
+/// Adds that so many search loops fit a beginning, as a `SearchLoop` has it, and what to do: a
+/// single loop may fit by accident, and others are those of a second region. If the byte at address
+/// 0 comes later, the bytes before it are to be dropped.
+fn push_beginning(
+    text: &mut String,
+    begin: u32,
+    votes: usize,
+    are_others: bool,
+) -> Result<(), AllocError> {
+    let loops = if votes == 1 { "loop fits" } else { "loops fit" };
+    let (other, verb) = match votes {
+        _ if are_others => (" other", "judge their part by"),
+        1 => ("", "try"),
+        _ => ("", "say"),
     };
-    write!(
-        text,
-        "the image begins at {address:06X}: {verb} --at {address:X}\n"
-    )?;
-    Ok(())
-}
-
-/// Adds that so many bytes stand before the byte at address 0, and how to drop them.
-fn push_front(text: &mut String, bytes: u32) -> Result<(), AllocError> {
-    let first = bytes.saturating_add(1);
-    write!(text, "byte {bytes:06X} of the image is at 000000: ")?;
-    write!(text, "drop the bytes before it, by tail -c +{first}\n")?;
-    Ok(())
+    write!(text, "note: {votes}{other} search {loops} if ")?;
+    match begin.checked_sub(STORAGE_LIMIT) {
+        Some(address) => write!(
+            text,
+            "the image begins at {address:06X}: {verb} --at {address:X}\n"
+        ),
+        None => {
+            let bytes = STORAGE_LIMIT.saturating_sub(begin);
+            let first = bytes.saturating_add(1);
+            write!(
+                text,
+                "byte {bytes:06X} of the image is at 000000: drop the bytes before it, by \
+                 tail -c +{first}\n"
+            )
+        }
+    }
 }
 
 /// The note on an image that is text: hexadecimal digits and white space, and from the first colon
@@ -107,32 +92,16 @@ fn text_note(image: &[u8]) -> &'static str {
             _ => return "",
         }
     }
-    if digits {
-        return IS_TEXT;
-    }
-    ""
+    if digits { IS_TEXT } else { "" }
 }
 
-/// The notes on images that are a file of another form, each with how the file begins.
-const FORMS: &[(&[u8], &str)] = &[
-    (
-        &[0x1F, 0x8B],
-        "note: this is compressed by gzip; unpack it first\n",
-    ),
-    (
-        &[0x02, 0xC5, 0xE2, 0xC4],
-        "note: this is an object deck; link and load it first\n",
-    ),
-];
-
-/// The note on an image that is a file of another form.
+/// The note on an image that is a file of another form, by how the file begins.
 fn form_note(image: &[u8]) -> &'static str {
-    for (front, note) in FORMS {
-        if image.starts_with(front) {
-            return note;
-        }
+    match image {
+        [0x1F, 0x8B, ..] => "note: this is compressed by gzip; unpack it first\n",
+        [0x02, 0xC5, 0xE2, 0xC4, ..] => "note: this is an object deck; link and load it first\n",
+        _ => "",
     }
-    ""
 }
 
 /// The search loops of an image.
@@ -168,35 +137,19 @@ fn loop_target(bytes: &[u8]) -> Option<u32> {
     Some(transfer.address())
 }
 
-/// A loop of those that agree on a beginning, more than on any other besides this one, and how many
-/// they are. Of several beginnings with as many, each more than one, the first counts.
-fn most_voted(sorted: &[SearchLoop], without: u32) -> Option<(SearchLoop, usize)> {
-    let (mut found, mut most, mut run) = (None, 0usize, 0usize);
-    for at in 0..sorted.len() {
-        run = if at > 0 && sorted[at - 1].begin == sorted[at].begin {
-            run.saturating_add(1)
-        } else {
-            1
-        };
-        if sorted[at].begin == without {
-            continue;
-        }
-        if run > most {
-            (found, most) = (Some((sorted[at], run)), run);
-        } else if run == most && most == 1 {
-            found = None;
+/// How many loops agree on `here` as the beginning; and a loop of those that agree on another, more
+/// than on any other, and how many they are. Of several beginnings with as many, each more than one,
+/// the first counts.
+fn most_voted(sorted: &[SearchLoop], here: u32) -> (usize, Option<(SearchLoop, usize)>) {
+    let (mut fit_here, mut likely, mut most) = (0, None, 0);
+    for agreed in sorted.chunk_by(|one, other| one.begin == other.begin) {
+        let votes = agreed.len();
+        match agreed.first() {
+            Some(first) if first.begin == here => fit_here = votes,
+            Some(first) if votes > most => (likely, most) = (Some((*first, votes)), votes),
+            _ if most == 1 => likely = None,
+            _ => {}
         }
     }
-    found
-}
-
-/// How many loops fit a beginning.
-fn votes_for(loops: &[SearchLoop], begin: u32) -> usize {
-    let mut votes = 0usize;
-    for search in loops {
-        if search.begin == begin {
-            votes = votes.saturating_add(1);
-        }
-    }
-    votes
+    (fit_here, likely)
 }

@@ -29,7 +29,7 @@ const VALUES: [u8; 256] = [
 ];
 
 /// The value of a digit.
-fn value_of(digit: u8) -> Option<u8>
+pub(crate) fn value_of(digit: u8) -> Option<u8>
     ensures { IsValue digit result }
 {
     let value = VALUES[usize::from(digit)];

@@ -3,8 +3,7 @@
 use crate::dump_line::{Fault, Front, HIGH, Spelled, front_of};
 use crate::hint::{BYTE_ORDER_MARK, SHOWN, push_caret_at, push_shown};
 use crate::image_note::is_deck;
-use crate::lines::next_line;
-use crate::texts::push_range;
+use crate::texts::Range;
 use ccw_core::{Area, STORAGE_LIMIT};
 use std::alloc::{AllocError, Global};
 use std::fmt::Write as _;
@@ -84,14 +83,9 @@ pub fn read_dump(alloc: Global, text: &[u8]) -> Result<Option<Dump>, DumpError> 
     if !reading.is_begun(text)? {
         return Ok(None);
     }
-    let mut rest = text;
-    for number in 1..u64::MAX {
-        if rest.is_empty() {
-            break;
-        }
-        let (line, after) = split_line(rest);
+    for (number, line) in (1..u64::MAX).zip(text.split(is_line_feed)) {
         match reading.read_line(line, number) {
-            Ok(()) => rest = after,
+            Ok(()) => {}
             Err(Fault::Memory) => return Err(DumpError::Memory),
             Err(Fault::At(why, column)) => {
                 return Err(DumpError::Refused(refusal(alloc, line, number, why, column)?));
@@ -104,12 +98,9 @@ pub fn read_dump(alloc: Global, text: &[u8]) -> Result<Option<Dump>, DumpError> 
     }
 }
 
-/// The next line, and what follows it. The last needs no line feed.
-fn split_line(text: &[u8]) -> (&[u8], &[u8]) {
-    match next_line(text) {
-        Some(parts) => parts,
-        None => (text, &[]),
-    }
+/// Whether a byte ends a line.
+fn is_line_feed(byte: &u8) -> bool {
+    *byte == b'\n'
 }
 
 /// What is said of a line that can't be read.
@@ -120,11 +111,7 @@ fn refusal(
     why: &str,
     column: usize,
 ) -> Result<String, AllocError> {
-    let mut out = String::new(alloc);
-    push_count(&mut out, "dump line ", number)?;
-    out.push_str(": ")?;
-    out.push_str(why)?;
-    out.push_str("\nfound ")?;
+    let mut out = format!(in alloc; "dump line {number}: {why}\nfound ")?;
     let room = column.saturating_add(SHOWN_AFTER).clamp(SHOWN, MOST_SHOWN);
     push_shown(&mut out, line.trim_ascii_end(), room)?;
     out.push('\n')?;
@@ -181,24 +168,19 @@ impl Reading {
     /// Whether a line of a text is an address with bytes, or begins with an address and `BEGUN`
     /// bytes. The first tells whether addresses are octal.
     fn is_begun(&mut self, text: &[u8]) -> Result<bool, AllocError> {
-        let mut rest = text;
-        for _ in 0..text.len() {
-            if rest.is_empty() {
-                break;
+        for line in text.split(is_line_feed) {
+            let Some(front) = front_of(line) else {
+                continue;
+            };
+            let fewest = match front.read_bytes(line, &mut self.read) {
+                Ok(()) => 1,
+                Err(Fault::At(..)) => BEGUN,
+                Err(Fault::Memory) => return Err(AllocError),
+            };
+            if self.read.len() >= fewest {
+                self.is_octal = front.is_octal();
+                return Ok(true);
             }
-            let (line, after) = split_line(rest);
-            if let Some(front) = front_of(line) {
-                let fewest = match front.read_bytes(line, &mut self.read) {
-                    Ok(()) => 1,
-                    Err(Fault::At(..)) => BEGUN,
-                    Err(Fault::Memory) => return Err(AllocError),
-                };
-                if self.read.len() >= fewest {
-                    self.is_octal = front.is_octal();
-                    return Ok(true);
-                }
-            }
-            rest = after;
         }
         Ok(false)
     }
@@ -236,8 +218,8 @@ impl Reading {
         if self.star.take().is_some() {
             self.repeat(address, len == 0, front.column)?;
         }
-        if !self.may_be_at(address, len) {
-            return Err(Fault::At(self.step(address, len), front.column));
+        if let Some(why) = self.wrong_step(address, len) {
+            return Err(Fault::At(why, front.column));
         }
         if len == 0 {
             return Ok(());
@@ -257,30 +239,21 @@ impl Reading {
         Ok(())
     }
 
-    /// Whether a line with so many bytes may have this address: it goes on where the last one ends,
-    /// or, with bytes, at or before its start, or after a gap. Between two lines of a long dump the
-    /// gap has as many bytes as a line or a multiple, and otherwise at least two.
-    fn may_be_at(&self, address: usize, len: usize) -> bool {
-        let Some(row) = self.row else {
-            return true;
+    /// Why a line with so many bytes may not have this address, if it may not: it goes on where the
+    /// last one ends, or, with bytes, at or before its start, or after a gap. Between two lines of a
+    /// long dump the gap has as many bytes as a line or a multiple, and otherwise at least two.
+    fn wrong_step(&self, address: usize, len: usize) -> Option<&'static str> {
+        let row = self.row?;
+        let may_be_gap = |gap: usize| match self.widest {
+            _ if !self.is_next => true,
+            9.. => row.len == self.widest && gap.checked_rem(row.len) == Some(0),
+            _ => gap > 1,
         };
         match address.checked_sub(row.end) {
-            Some(0) => true,
-            _ if len == 0 => false,
-            None => address <= row.start,
-            Some(_) if !self.is_next => true,
-            Some(gap) if self.widest > 8 => {
-                row.len == self.widest && gap.checked_rem(row.len) == Some(0)
-            }
-            Some(gap) => gap > 1,
-        }
-    }
-
-    /// What is said of a line with so many bytes that may not have this address.
-    fn step(&self, address: usize, len: usize) -> &'static str {
-        match self.row {
-            Some(row) if row.end < address && len > 0 => GAP,
-            _ => STEP,
+            Some(0) => None,
+            Some(gap) if len > 0 => (!may_be_gap(gap)).then_some(GAP),
+            None if len > 0 && address <= row.start => None,
+            _ => Some(STEP),
         }
     }
 
@@ -313,20 +286,19 @@ impl Reading {
 
     /// Repeats the last line with bytes up to an address: whole lines, or up to the end.
     fn repeat(&mut self, end: usize, is_end: bool, column: usize) -> Result<(), Fault> {
-        let Some(row) = self.row else {
+        let is_whole = |row: &Row| {
+            let len = end.checked_sub(row.end);
+            len.is_some_and(|len| is_end || len.checked_rem(row.len) == Some(0))
+        };
+        let Some(row) = self.row.filter(is_whole) else {
             return Err(Fault::At(REPEAT, column));
         };
-        let len = end.checked_sub(row.end).unwrap_or(1);
-        if end < row.end || !is_end && len.checked_rem(row.len) != Some(0) {
-            return Err(Fault::At(REPEAT, column));
-        }
         for address in row.end..end {
             if let Some(Some(_)) = self.bytes.get(address) {
                 return Err(Fault::At(AGAIN, column));
             }
-            let offset = address.saturating_sub(row.start).checked_rem(row.len);
-            let repeated = row.start.saturating_add(offset.unwrap_or(0));
-            let byte = self.bytes.get(repeated).copied().unwrap_or(None);
+            let repeated = address.saturating_sub(row.len);
+            let byte = self.bytes.get(repeated).copied().flatten();
             self.set(address, byte, column)?;
         }
         self.row = Some(Row { end, ..row });
@@ -337,32 +309,29 @@ impl Reading {
     fn finish(self, alloc: Global) -> Result<Dump, AllocError> {
         let mut image = Vec::new(alloc);
         let mut gaps = Vec::new(alloc);
-        let (mut at, mut zeros) = (0, 0u64);
-        for address in 0..STORAGE_LIMIT {
-            match self.bytes.get(address as usize).copied() {
-                Some(Some(byte)) => {
-                    if image.is_empty() {
-                        at = address;
-                    }
-                    image.push(byte)?;
-                }
-                Some(None) if image.is_empty() => {}
-                Some(None) => {
-                    image.push(0)?;
-                    add_gap(&mut gaps, address)?;
-                    zeros = zeros.saturating_add(1);
-                }
-                None => break,
+        let (mut at, mut end, mut zeros) = (0, 0, 0u64);
+        for (address, byte) in (0..STORAGE_LIMIT).zip(&self.bytes) {
+            let Some(byte) = *byte else {
+                continue;
+            };
+            if image.is_empty() {
+                (at, end) = (address, address);
             }
+            let len = address.saturating_sub(end);
+            if len > 0 {
+                gaps.push(Area { start: end, len })?;
+                zeros = zeros.saturating_add(u64::from(len));
+                image.resize(image.len().saturating_add(len as usize), 0)?;
+            }
+            image.push(byte)?;
+            end = address.saturating_add(1);
         }
-        let mut notes = String::new(alloc);
-        if self.passed > 0 {
-            push_count(
-                &mut notes,
-                "note: lines without an address, passed over: ",
-                self.passed,
+        let (mut notes, passed) = (String::new(alloc), self.passed);
+        if passed > 0 {
+            write!(
+                notes,
+                "note: lines without an address, passed over: {passed}\n"
             )?;
-            notes.push('\n')?;
         }
         push_gaps(&mut notes, gaps.as_slice(), zeros)?;
         Ok(Dump { at, image, notes })
@@ -380,33 +349,13 @@ fn is_heading(text: &[u8]) -> bool {
 /// 000820-0008E0  SAME AS ABOVE` or `LINE 000820  SAME AS ABOVE`.
 fn lines_repeated(text: &[u8]) -> Option<(usize, usize)> {
     let text = str::from_utf8(text).ok()?.strip_suffix("SAME AS ABOVE")?;
-    let lines = match text.strip_prefix("LINES ") {
-        Some(lines) => lines.trim_ascii(),
-        None => text.strip_prefix("LINE ")?.trim_ascii(),
-    };
+    let lines = text
+        .strip_prefix("LINES ")
+        .or(text.strip_prefix("LINE "))?
+        .trim_ascii();
     let (first, last) = lines.split_once("-").unwrap_or((lines, lines));
     let first = u32::from_str_radix(first, 16).ok()?;
     Some((first as usize, u32::from_str_radix(last, 16).ok()? as usize))
-}
-
-/// Adds an address that no line tells to the gaps.
-fn add_gap(gaps: &mut Vec<Area>, address: u32) -> Result<(), AllocError> {
-    if let Some(last) = gaps.last_mut() {
-        if last.start.saturating_add(last.len) == address {
-            last.len = last.len.saturating_add(1);
-            return Ok(());
-        }
-    }
-    gaps.extend_from_slice(&[Area {
-        start: address,
-        len: 1,
-    }])
-}
-
-/// Adds a number after what it counts.
-fn push_count(out: &mut String, what: &str, count: u64) -> Result<(), AllocError> {
-    out.push_str(what)?;
-    write!(out, "{count}")
 }
 
 /// Adds the note on the gaps of a dump, which have so many zeros.
@@ -414,10 +363,11 @@ fn push_gaps(out: &mut String, gaps: &[Area], zeros: u64) -> Result<(), AllocErr
     if gaps.is_empty() {
         return Ok(());
     }
-    push_count(out, "note: zeros in gaps of the dump: ", zeros)?;
+    write!(out, "note: zeros in gaps of the dump: {zeros}")?;
     for (at, gap) in gaps.iter().take(GAPS_LISTED).enumerate() {
         out.push_str(if at == 0 { ", at " } else { ", " })?;
-        push_range(out, *gap)?;
+        let range = Range(*gap);
+        write!(out, "{range}")?;
     }
     out.push_str(if gaps.len() > GAPS_LISTED {
         ", ..\n"

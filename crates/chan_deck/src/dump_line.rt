@@ -1,7 +1,9 @@
 //! A line of a dump of storage as text: an address, and the bytes from there on.
 
+use crate::digits::value_of;
 use ccw_core::STORAGE_LIMIT;
 use std::alloc::AllocError;
+use std::str;
 
 /// Why a line of a dump isn't read.
 #[derive(Clone, Copy)]
@@ -35,28 +37,15 @@ pub(crate) struct Spelled {
     pub(crate) column: usize,
 }
 
-/// What tells the address of a line from its bytes.
-#[derive(Clone, Copy, PartialEq, Eq)]
-enum Form {
-    /// The line is one of Hercules, which has the bytes in columns: `R:00000800:K:06=07000900 ..`.
-    Display,
-    /// A colon comes after the address.
-    Colon,
-    /// Blanks come after the address. It may be octal, and words of two bytes may be swapped.
-    Blank,
-}
-
-/// What comes before and after the address in each form. The first that fits counts.
-const FORMS: [(&'static str, &'static str, Form); 3] = [
-    ("R:", ":K:", Form::Display),
-    ("", ":", Form::Colon),
-    ("", "", Form::Blank),
+/// The forms of a line: what comes before and after the address, how many columns are then left out,
+/// and how many have bytes. The first that fits counts. The first form is that of Hercules:
+/// `R:00000800:K:06=07000900 ..`. In the last, blanks come after the address, which may be octal, and
+/// words of two bytes may be swapped.
+const FORMS: [(&'static str, &'static str, usize, usize); 3] = [
+    ("R:", ":K:", 3, 36),
+    ("", ":", 0, usize::MAX),
+    ("", "", 0, usize::MAX),
 ];
-
-/// How many columns of a line of Hercules are left out after `:K:`, and how many then have bytes.
-const KEY_COLUMNS: usize = 3;
-
-const DISPLAY_COLUMNS: usize = 36;
 
 /// How long a text column without a mark may be, with the blanks before it. It bounds how often a
 /// long line is looked at.
@@ -71,104 +60,68 @@ const MARKS: &[u8] = b"|*>;";
 /// The address of a line, and the columns of its bytes.
 #[derive(Clone, Copy)]
 pub(crate) struct Front<'a> {
-    form: Form,
     digits: &'a [u8],
     /// The column of the address.
     pub(crate) column: usize,
+    /// Whether blanks alone come after the address.
+    is_blank: bool,
     from: usize,
     until: usize,
 }
 
-/// The value of a digit of either case.
-fn digit_of(byte: u8) -> Option<u8> {
-    match byte {
-        b'0'..=b'9' => Some(byte - b'0'),
-        b'A'..=b'F' => Some(byte - b'A' + 10),
-        b'a'..=b'f' => Some(byte - b'a' + 10),
-        _ => None,
-    }
-}
-
-/// The digits at the front of a text, and what follows them.
-fn split_digits(text: &[u8]) -> (&[u8], &[u8]) {
-    for at in 0..text.len() {
-        if digit_of(text[at]).is_none() {
-            return text.split_at(at);
-        }
-    }
-    (text, &[])
-}
-
 /// The address of a line, if the line has it in a form: three to eight digits, and not letters
 /// alone, which may be a word.
-fn front_by<'a>(line: &'a [u8], before: &str, after: &str, form: Form) -> Option<Front<'a>> {
+fn front_by<'a>(line: &'a [u8], form: &(&str, &str, usize, usize)) -> Option<Front<'a>> {
+    let (before, after, skipped, width) = *form;
     let text = line.trim_ascii_start().strip_prefix(before.as_bytes())?;
-    let (digits, rest) = split_digits(text);
+    let end = text.iter().position(|byte| !byte.is_ascii_hexdigit());
+    let (digits, rest) = text.split_at(end.unwrap_or(text.len()));
     let rest = rest.strip_prefix(after.as_bytes())?;
     let is_word = digits.iter().all(|digit| !digit.is_ascii_digit());
     if is_word || digits.len() < 3 || digits.len() > 8 {
         return None;
     }
-    let is_apart = match rest.first() {
-        Some(next) => next.is_ascii_whitespace() || MARKS.contains(next),
-        None => true,
-    };
-    let from = line.len().saturating_sub(rest.len());
-    let (from, until) = match form {
-        Form::Display => {
-            let from = from.saturating_add(KEY_COLUMNS);
-            (from, line.len().min(from.saturating_add(DISPLAY_COLUMNS)))
-        }
-        Form::Blank if !is_apart => return None,
-        _ => (from, line.len()),
-    };
+    let is_blank = after.is_empty();
+    let ends_word = |next: &u8| next.is_ascii_whitespace() || MARKS.contains(next);
+    if is_blank && !rest.first().is_none_or(ends_word) {
+        return None;
+    }
+    let from = line
+        .len()
+        .saturating_sub(rest.len())
+        .saturating_add(skipped);
     Some(Front {
-        form,
         digits,
         column: line.len().saturating_sub(text.len()),
+        is_blank,
         from,
-        until,
+        until: line.len().min(from.saturating_add(width)),
     })
 }
 
 /// The address of a line, if the line has one.
 pub(crate) fn front_of(line: &[u8]) -> Option<Front<'_>> {
-    for (before, after, form) in &FORMS {
-        if let Some(front) = front_by(line, before, after, *form) {
-            return Some(front);
-        }
-    }
-    None
+    FORMS.iter().find_map(|form| front_by(line, form))
 }
 
 impl Front<'_> {
     /// Whether the address is as `od` writes it in octal.
     pub(crate) fn is_octal(&self) -> bool {
-        self.form == Form::Blank
-            && self.digits.len() == 7
-            && self
-                .digits
-                .iter()
-                .all(|digit| matches!(*digit, b'0'..=b'7'))
+        self.is_blank && self.digits.len() == 7 && self.digits.iter().all(is_octal_digit)
     }
 
     /// The address, in a dump whose addresses may be octal.
     pub(crate) fn address(&self, is_octal: bool) -> Result<usize, Fault> {
-        let is_octal = is_octal && self.form == Form::Blank;
-        let radix = if is_octal { 8 } else { 16 };
-        let mut address = 0u32;
-        for at in 0..self.digits.len() {
-            let digit = digit_of(self.digits[at]).unwrap_or(16);
-            if digit >= radix {
-                return Err(Fault::At(OCTAL, self.column.saturating_add(at)));
-            }
-            address = address.saturating_mul(u32::from(radix));
-            address = address.saturating_add(u32::from(digit));
+        let is_octal = is_octal && self.is_blank;
+        let wrong = self.digits.iter().position(|digit| !is_octal_digit(digit));
+        if let (true, Some(at)) = (is_octal, wrong) {
+            return Err(Fault::At(OCTAL, self.column.saturating_add(at)));
         }
-        if address > STORAGE_LIMIT {
-            return Err(Fault::At(HIGH, self.column));
+        let digits = str::from_utf8(self.digits).unwrap_or("");
+        match usize::from_str_radix(digits, if is_octal { 8 } else { 16 }) {
+            Ok(address) if address <= STORAGE_LIMIT as usize => Ok(address),
+            _ => Err(Fault::At(HIGH, self.column)),
         }
-        Ok(address as usize)
     }
 
     /// Reads the bytes of the line in place of those of the list.
@@ -176,7 +129,7 @@ impl Front<'_> {
         bytes.truncate(0);
         let mut high = None;
         for column in self.from..self.until.min(line.len()) {
-            match (digit_of(line[column]), high) {
+            match (value_of(line[column].to_ascii_uppercase()), high) {
                 (Some(_), None) if self.is_apart(column, bytes.last()) => {
                     return Err(Fault::At(APART, column));
                 }
@@ -215,8 +168,13 @@ impl Front<'_> {
                 return false;
             }
         }
-        self.form == Form::Blank && bytes.len() > 2 && bytes.len() % 2 == 0
+        self.is_blank && bytes.len() > 2 && bytes.len() % 2 == 0
     }
+}
+
+/// Whether a digit may be octal.
+fn is_octal_digit(digit: &u8) -> bool {
+    matches!(*digit, b'0'..=b'7')
 }
 
 /// Whether the bytes of a line end before what is left of it.
@@ -231,19 +189,12 @@ fn ends_before(rest: &[u8], bytes: &[Spelled]) -> bool {
 fn is_text(rest: &[u8], bytes: &[Spelled]) -> bool {
     let text = rest.trim_ascii();
     let blanks = rest.trim_ascii_end().len().saturating_sub(text.len());
-    let mut shown = 0;
-    for spelled in bytes {
-        let byte = match spelled.byte {
-            byte @ b' '..=b'~' => byte,
-            _ => b'.',
-        };
-        if shown == 0 && byte == b' ' {
-            continue;
-        }
-        if byte != text.get(shown).copied().unwrap_or(b' ') {
-            return false;
-        }
-        shown = shown.saturating_add(1);
-    }
-    blanks > 1 && text.len() <= shown
+    let shown = bytes.iter().map(|spelled| match spelled.byte {
+        byte @ b' '..=b'~' => byte,
+        _ => b'.',
+    });
+    let mut shown = shown.skip_while(|byte| *byte == b' ');
+    blanks > 1
+        && text.iter().all(|byte| shown.next() == Some(*byte))
+        && shown.all(|byte| byte == b' ')
 }
