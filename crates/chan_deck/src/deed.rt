@@ -40,13 +40,11 @@ impl<'a> Shown<'a> {
     /// takes that from.
     pub(crate) fn setting_of(&self, look: &Look) -> Option<Setting> {
         let data = data_of(&look.ccw()?);
-        if self.stored.meets(data.start, data.len) {
+        let mut argument = look.argument().iter();
+        if self.stored.meets(data.start, data.len)
+            || argument.any(|address| self.stored.meets(*address, 1))
+        {
             return None;
-        }
-        for address in look.argument() {
-            if self.stored.meets(*address, 1) {
-                return None;
-            }
         }
         setting_at(self.job, look.place())
     }
@@ -68,12 +66,8 @@ impl<'a> Shown<'a> {
         if command.name().starts_with("search-key") {
             return push_key(out, storage, data);
         }
-        let len = if command.name().starts_with("search-id") {
-            5
-        } else {
-            4
-        };
-        if data.len == len {
+        let has_record = command.name().starts_with("search-id");
+        if data.len == if has_record { 5 } else { 4 } {
             return push_record(out, storage, data);
         }
         Ok(())
@@ -97,10 +91,11 @@ fn push_record(out: &mut String, storage: &Storage, data: Area) -> Result<(), Al
 /// a longer key only the first bytes are shown.
 fn push_key(out: &mut String, storage: &Storage, data: Area) -> Result<(), AllocError> {
     let len = data.len.min(MOST_OF_KEY);
-    let is_text = is_text(storage, data.start, len);
+    let byte = |number: u32| storage.byte_at(data.start.saturating_add(number));
+    let is_text = (0..len).all(|number| character_of(byte(number)).is_some());
     out.push_str(if is_text { " (key '" } else { " (key " })?;
     for number in 0..len {
-        let byte = storage.byte_at(data.start.saturating_add(number));
+        let byte = byte(number);
         match character_of(byte) {
             Some(character) if is_text => out.push(char::from(character))?,
             _ => write!(out, "{byte:02X}")?,
@@ -110,16 +105,6 @@ fn push_key(out: &mut String, storage: &Storage, data: Area) -> Result<(), Alloc
         out.push_str("..")?;
     }
     out.push_str(if is_text { "')" } else { ")" })
-}
-
-/// Whether each of some bytes is a character of EBCDIC.
-fn is_text(storage: &Storage, start: u32, len: u32) -> bool {
-    for number in 0..len {
-        if character_of(storage.byte_at(start.saturating_add(number))).is_none() {
-            return false;
-        }
-    }
-    true
 }
 
 /// The character of a code of EBCDIC, in ASCII.
@@ -139,17 +124,12 @@ pub(crate) fn push_amount(out: &mut String, ccw: Ccw) -> Result<(), AllocError> 
 
 /// Adds the flags of a CCW that change what is reported of it: SLI and PCI.
 pub(crate) fn push_reported(out: &mut String, look: &Look) -> Result<(), AllocError> {
-    let Some(ccw) = look.ccw() else {
-        return Ok(());
-    };
-    if ccw.is_transfer() {
-        return Ok(());
-    }
-    if ccw.flags() & CcwFlags::SLI.bits() != 0 {
-        push_part(out, "SLI")?;
-    }
-    if ccw.flags() & CcwFlags::PCI.bits() != 0 {
-        push_part(out, "PCI")?;
+    let ccw = look.ccw().filter(|ccw| !ccw.is_transfer());
+    let flags = ccw.map_or(0, |ccw| ccw.flags());
+    for (flag, name) in [(CcwFlags::SLI, "SLI"), (CcwFlags::PCI, "PCI")] {
+        if flags & flag.bits() != 0 {
+            push_part(out, name)?;
+        }
     }
     Ok(())
 }

@@ -9,11 +9,11 @@ use crate::deed::{Shown, push_amount, push_reported};
 use crate::evidence::push_evidence;
 use crate::explanation::push_setting;
 use crate::layout::{
-    Arrow, Layout, MOST_ROWS, Row, Scene, arrow_to, first_offence, first_row, is_left_out_of,
+    Arrow, Layout, MOST_ROWS, Row, Scene, arrow_to, first_row, indices_at, is_left_out_of,
     layout_of, row_at, shown_of,
 };
 use crate::listing::{name_of, transfer_word, way_word};
-use crate::texts::{Address, Digits, Range, Size, push_verdict};
+use crate::texts::{Range, push_verdict};
 use chan_walk::{
     Direction, Entry, Evidence, Job, Look, Offence, Place, Verdict, data_of, first_place,
 };
@@ -60,15 +60,11 @@ pub struct Picture<'a> {
 struct Node(Place);
 
 impl fmt::Display for Node {
-    ghost use Rattle.std.specs.Prelude.{None};
-
-    ghost output = { λ _. None };
-
     fn fmt<W: fmt::Write>(&self, f: &mut fmt::Formatter<W>) -> fmt::Result {
-        let address = Address(self.0.address);
+        let address = self.0.address;
         let way = way_word(self.0.entered);
         let transfer = transfer_word(self.0.after_transfer);
-        write!(f, "{address} {way} {transfer}")
+        write!(f, "{address:06X} {way} {transfer}")
     }
 }
 
@@ -80,16 +76,9 @@ enum Cell {
 }
 
 impl fmt::Display for Cell {
-    ghost use Rattle.std.specs.Prelude.{None};
-
-    ghost output = { λ _. None };
-
     fn fmt<W: fmt::Write>(&self, f: &mut fmt::Formatter<W>) -> fmt::Result {
         match self {
-            Cell::Row(address) => {
-                let address = Address(*address);
-                write!(f, "row{address}")
-            }
+            Cell::Row(address) => write!(f, "row{address:06X}"),
             Cell::LeftOut => f.write_str("more"),
         }
     }
@@ -103,10 +92,6 @@ struct End {
 }
 
 impl fmt::Display for End {
-    ghost use Rattle.std.specs.Prelude.{None};
-
-    ghost output = { λ _. None };
-
     fn fmt<W: fmt::Write>(&self, f: &mut fmt::Formatter<W>) -> fmt::Result {
         let node = self.node;
         match self.cell {
@@ -173,28 +158,15 @@ fn push_cylinders(out: &mut String, extents: &[(u16, u16)]) -> Result<(), AllocE
     Ok(())
 }
 
-/// How many notes there are.
-fn count_notes(notes: &str) -> usize {
-    let mut count: usize = 0;
-    for line in notes.lines() {
-        if line.starts_with("note: ") {
-            count = count.saturating_add(1);
-        }
-    }
-    count
-}
-
 /// Adds the notes, of many only the first.
 fn push_notes(out: &mut String, notes: &str) -> Result<(), AllocError> {
-    let count = count_notes(notes);
-    let mut left = shown_of(count, MOST_NOTES);
-    let more = count.saturating_sub(left);
-    for line in notes.lines() {
-        if line.starts_with("note: ") && left > 0 {
-            write!(out, "\\n{line}")?;
-            left = left.saturating_sub(1);
-        }
+    let is_note = |line: &&str| line.starts_with("note: ");
+    let count = notes.lines().filter(is_note).count();
+    let shown = shown_of(count, MOST_NOTES);
+    for line in notes.lines().filter(is_note).take(shown) {
+        write!(out, "\\n{line}")?;
     }
+    let more = count.saturating_sub(shown);
     if more > 0 {
         write!(out, "\\n{more} more notes")?;
     }
@@ -208,15 +180,14 @@ fn push_grants(out: &mut String, picture: &Picture) -> Result<(), AllocError> {
         Device::D2311 => "2311",
         Device::D2314 => "2314",
     };
-    let mask = Digits(job.mask.byte());
-    write!(out, "{device}, mask {mask}")?;
+    let (mask, size) = (job.mask.byte(), job.storage.len());
+    write!(out, "{device}, mask {mask:02X}")?;
     push_cylinders(out, job.extents.pairs())?;
-    let size = Size(job.storage.len());
     let color = match picture.verdict {
         Verdict::Yes => "#006000",
         Verdict::No { .. } => "#B00000",
     };
-    write!(out, ", storage {size}")?;
+    write!(out, ", storage {size:07X}")?;
     push_notes(out, picture.notes)?;
     write!(
         out,
@@ -267,14 +238,14 @@ pub(crate) fn verb_at(look: &Look) -> Option<&'static str> {
         Some(command) => command.kind() == Kind::Inward,
         None => look.place().entered == Entry::ChainIn,
     };
-    if reads { Some("skips") } else { None }
+    reads.then_some("skips")
 }
 
 /// A row as the picture has it; `width` is that of the longest name in its box.
 fn drawn_row(alloc: Global, shown: &Shown, row: &Row, width: usize) -> Result<String, AllocError> {
-    let address = Address(row.look.place().address);
+    let address = row.look.place().address;
     let name = name_text(alloc, shown, row.look)?;
-    let mut text = format!(in alloc; "{address}  {name}")?;
+    let mut text = format!(in alloc; "{address:06X}  {name}")?;
     push_data(&mut text, shown, row.look, width.saturating_sub(name.len()))?;
     push_until_and_stored(&mut text, row)?;
     Ok(text)
@@ -302,12 +273,10 @@ fn push_data(
 /// Adds by which transfer a row is repeated until it is found, and which CCW stores over it.
 fn push_until_and_stored(out: &mut String, row: &Row) -> Result<(), AllocError> {
     if let Some(transfer) = row.until {
-        let transfer = Address(transfer);
-        write!(out, "  until found (TIC at {transfer})")?;
+        write!(out, "  until found (TIC at {transfer:06X})")?;
     }
     if let Some(address) = row.stored_by {
-        let address = Address(address);
-        write!(out, "  stored over by {address}")?;
+        write!(out, "  stored over by {address:06X}")?;
     }
     Ok(())
 }
@@ -378,40 +347,31 @@ fn push_reason(
     push_line(out, None, reason.as_str())?;
     let mut text = String::new(alloc);
     push_evidence(alloc, &mut text, cause)?;
-    let (first, second) = match (text.split_once(", over "), text.split_once(": ")) {
-        (Some((data, over)), _) => (
-            format!(in alloc; "  {data},")?,
-            format!(in alloc; "  over {over}")?,
-        ),
-        (None, Some((wrong, given))) => (
-            format!(in alloc; "  {wrong}:")?,
-            format!(in alloc; "  {given}")?,
-        ),
-        (None, None) => (format!(in alloc; "  {text}")?, String::new(alloc)),
+    let cause = match (text.split_once(", over "), text.split_once(": ")) {
+        (Some((data, over)), _) => format!(in alloc; "  {data},\n  over {over}")?,
+        (None, Some((wrong, given))) => format!(in alloc; "  {wrong}:\n  {given}")?,
+        (None, None) => format!(in alloc; "  {text}")?,
     };
-    push_line(out, None, first.as_str())?;
-    if second.is_empty() {
-        return Ok(());
+    for line in cause.lines() {
+        push_line(out, None, line)?;
     }
-    push_line(out, None, second.as_str())
+    Ok(())
 }
 
-/// The offences of a place, each with its cause. Offences are in order of addresses.
+/// The offences of a place, each with its cause.
 fn offences_at(
     alloc: Global,
     picture: &Picture,
     place: Place,
 ) -> Result<Vec<(Offence, Evidence)>, AllocError> {
     let mut found = Vec::new(alloc);
-    let first = first_offence(picture.offences, place.address);
-    for at in first..picture.offences.len() {
+    let (first, end) = indices_at(picture.offences, place.address);
+    for at in first..end {
         match (picture.offences.get(at), picture.causes.get(at)) {
-            (Some(offence), Some(cause)) if offence.place.address == place.address => {
-                if offence.place == place {
-                    found.push((*offence, *cause))?;
-                }
+            (Some(offence), Some(cause)) if offence.place == place => {
+                found.push((*offence, *cause))?;
             }
-            _ => return Ok(found),
+            _ => (),
         }
     }
     Ok(found)
@@ -422,12 +382,8 @@ fn is_named(verdict: Verdict, offences: &[(Offence, Evidence)]) -> bool {
     let Verdict::No { address, reason } = verdict else {
         return false;
     };
-    for (offence, _) in offences {
-        if offence.place.address == address && offence.reason == reason {
-            return true;
-        }
-    }
-    false
+    let mut named = offences.iter();
+    named.any(|(offence, _)| offence.place.address == address && offence.reason == reason)
 }
 
 /// Adds the box of some rows, of which this place is the first: a pink one if it offends, and then
@@ -491,12 +447,12 @@ fn push_boxes(
             frame = None;
         }
         if frame.is_none() && layout.is_framed(at) {
-            let address = Address(place.address);
+            let address = place.address;
             write!(
                 out,
-                "  subgraph \"cluster_{address}\" {{ label=\"\"; style=dashed; color=gray40;\n"
+                "  subgraph \"cluster_{address:06X}\" {{ label=\"\"; style=dashed; color=gray40;\n"
             )?;
-            frame = Some(place.address);
+            frame = Some(address);
         }
         let rows = layout.rows(alloc, at)?;
         let is_endless = ends.get(at).copied() == Some(false);
@@ -568,22 +524,19 @@ fn push_arrow(
     arrow: Option<Arrow>,
     is_found: bool,
 ) -> Result<(), AllocError> {
-    let Some(arrow) = arrow else {
+    let Some(arrow) = arrow.filter(|arrow| layout.head(arrow.to) == Some(arrow.to)) else {
         return Ok(());
     };
-    if layout.head(arrow.to) != Some(arrow.to) {
-        return Ok(());
-    }
     let Some((from, to)) = ends_of(picture.looks, layout, at, arrow.to) else {
         return Ok(());
     };
     write!(out, "  {from} -> {to}")?;
-    let style = if is_found {
-        "style=dashed, weight=8"
-    } else {
-        ""
-    };
     let is_labelled = layout.boxes <= MOST_LABELLED;
+    let (style, comma) = if is_found {
+        ("style=dashed, weight=8", ", ")
+    } else {
+        ("", "")
+    };
     let found = if is_found && is_labelled {
         "if found"
     } else {
@@ -591,11 +544,9 @@ fn push_arrow(
     };
     match arrow.through {
         Some(transfer) if is_labelled => {
-            let transfer = Address(transfer);
-            let comma = if is_found { ", " } else { "" };
             write!(
                 out,
-                " [{style}{comma}label=\" {found}{comma}TIC at {transfer} \"];\n"
+                " [{style}{comma}label=\" {found}{comma}TIC at {transfer:06X} \"];\n"
             )
         }
         _ if is_found => write!(out, " [{style}, label=\" {found} \"];\n"),

@@ -55,21 +55,17 @@ pub(crate) struct Row<'a> {
 
 /// Whether a transfer in channel stands at a place.
 fn shows_transfer(look: &Look) -> bool {
-    match look.ccw() {
-        Some(ccw) => ccw.is_transfer(),
-        None => false,
-    }
+    look.ccw().is_some_and(|ccw| ccw.is_transfer())
 }
 
 /// Whether a place is drawn as a label on arrows alone: a transfer without a fault is, unless
 /// something is stored over it.
 fn is_passage(scene: Scene<'_>, at: usize) -> bool {
-    match scene.looks.get(at) {
-        Some(look) => {
-            shows_transfer(look) && look.fault().is_none() && stored_at(scene, at).is_none()
-        }
-        None => false,
-    }
+    stored_at(scene, at).is_none()
+        && scene
+            .looks
+            .get(at)
+            .is_some_and(|look| shows_transfer(look) && look.fault().is_none())
 }
 
 /// The address of the CCW that stores over that of a look.
@@ -134,11 +130,10 @@ pub(crate) fn row_at<'a>(scene: Scene<'a>, at: usize) -> Option<Row<'a>> {
         (Some(next), Some(_)) if next.to == at => next.through,
         _ => None,
     };
-    let next = if until.is_some() { None } else { next };
     Some(Row {
         look,
         until,
-        next,
+        next: next.filter(|_| until.is_none()),
         skip,
         stored_by: stored_at(scene, at),
     })
@@ -148,32 +143,23 @@ pub(crate) fn row_at<'a>(scene: Scene<'a>, at: usize) -> Option<Row<'a>> {
 pub(crate) fn first_row(scene: Scene<'_>, address: u32) -> Option<usize> {
     let looks = scene.looks;
     let first = looks.partition_point(|look| look.place().address < address);
-    for at in first..looks.len() {
-        if looks.get(at)?.place().address != address {
-            return None;
-        }
-        if row_at(scene, at).is_some() {
-            return Some(at);
-        }
-    }
-    None
+    let end = looks.partition_point(|look| look.place().address <= address);
+    (first..end).find(|at| row_at(scene, *at).is_some())
 }
 
-/// The indices of the offences at an address begin here; they are in order of addresses.
-pub(crate) fn first_offence(offences: &[Offence], address: u32) -> usize {
-    offences.partition_point(|offence| offence.place.address < address)
+/// The index of the first offence at an address, and that behind the last. Offences are in order of
+/// addresses.
+pub(crate) fn indices_at(offences: &[Offence], address: u32) -> (usize, usize) {
+    let first = offences.partition_point(|offence| offence.place.address < address);
+    let end = offences.partition_point(|offence| offence.place.address <= address);
+    (first, end)
 }
 
 /// Whether a place offends.
 fn offends(offences: &[Offence], place: Place) -> bool {
-    for at in first_offence(offences, place.address)..offences.len() {
-        match offences.get(at) {
-            Some(offence) if offence.place == place => return true,
-            Some(offence) if offence.place.address == place.address => (),
-            _ => return false,
-        }
-    }
-    false
+    let (first, end) = indices_at(offences, place.address);
+    let found = offences.get(first..end);
+    found.is_some_and(|found| found.iter().any(|offence| offence.place == place))
 }
 
 /// Which rows stand in which box.
@@ -192,31 +178,15 @@ pub(crate) struct Layout {
 }
 
 impl Layout {
-    /// The layout to which no place was added.
-    fn without_boxes(alloc: Global, scene: Scene<'_>) -> Result<Layout, AllocError> {
-        let framed = framed_rows(alloc, scene)?;
-        let mut lengths = Vec::new(alloc);
-        lengths.resize(scene.looks.len(), 0)?;
-        Ok(Layout {
-            heads: Vec::new(alloc),
-            numbers: Vec::new(alloc),
-            lengths,
-            framed,
-            boxes: 0,
-        })
-    }
-
     /// Adds a place, whose row stands in the box that begins with the row `head`.
     fn add(&mut self, at: usize, head: Option<usize>) -> Result<(), AllocError> {
         if head == Some(at) {
             self.boxes = self.boxes.saturating_add(1);
         }
         let mut number = 0;
-        if let Some(head) = head {
-            if head < self.lengths.len() {
-                number = self.lengths[head];
-                self.lengths[head] = number.saturating_add(1);
-            }
+        if let Some(length) = head.and_then(|head| self.lengths.get_mut(head)) {
+            number = *length;
+            *length = number.saturating_add(1);
         }
         self.heads.push(head)?;
         self.numbers.push(number)?;
@@ -231,11 +201,8 @@ impl Layout {
     /// Whether the row is left out of its box, which has too many.
     pub(crate) fn is_left_out(&self, at: usize) -> bool {
         let number = self.numbers.get(at).copied().unwrap_or(0);
-        let length = match self.head(at) {
-            Some(head) => self.lengths.get(head).copied().unwrap_or(0),
-            None => 0,
-        };
-        is_left_out_of(length, number)
+        let length = self.head(at).and_then(|head| self.lengths.get(head));
+        is_left_out_of(length.copied().unwrap_or(0), number)
     }
 
     /// Whether another row has the address of this one.
@@ -259,10 +226,8 @@ impl Layout {
 
 /// Counts an arrow for the row to which it leads.
 fn count_arrow(ways: &mut Vec<u32>, arrow: Option<Arrow>) {
-    if let Some(arrow) = arrow {
-        if arrow.to < ways.len() {
-            ways[arrow.to] = ways[arrow.to].saturating_add(1);
-        }
+    if let Some(ways) = arrow.and_then(|arrow| ways.get_mut(arrow.to)) {
+        *ways = ways.saturating_add(1);
     }
 }
 
@@ -317,7 +282,15 @@ pub(crate) fn layout_of(
     offences: &[Offence],
 ) -> Result<Layout, AllocError> {
     let ways = ways_in(alloc, first, scene)?;
-    let mut layout = Layout::without_boxes(alloc, scene)?;
+    let mut lengths = Vec::new(alloc);
+    lengths.resize(scene.looks.len(), 0)?;
+    let mut layout = Layout {
+        heads: Vec::new(alloc),
+        numbers: Vec::new(alloc),
+        lengths,
+        framed: framed_rows(alloc, scene)?,
+        boxes: 0,
+    };
     share_boxes(&mut layout, scene, ways.as_slice(), offences)?;
     Ok(layout)
 }

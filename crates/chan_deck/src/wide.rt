@@ -6,9 +6,9 @@ ghost use Rattle.chan_deck.specs.Listing.{IsWideListing};
 
 use crate::deed::{Shown, push_amount, push_part, push_reported};
 use crate::graph::{name_at, verb_at};
-use crate::layout::{Scene, first_offence, first_twin, row_at};
+use crate::layout::{Scene, first_twin, indices_at, row_at};
 use crate::listing::way_word;
-use crate::texts::{Digits, push_address, push_range, push_verdict};
+use crate::texts::{Range, push_address, push_verdict};
 use ccw_core::Ccw;
 use chan_walk::{Entry, Job, Look, Offence, Place, Setting, Verdict, data_of};
 use ckd_core::Track;
@@ -62,7 +62,8 @@ fn push_columns(alloc: Global, out: &mut String, ccw: Option<Ccw>) -> Result<(),
         out.push_str("-> ")?;
         push_address(out, ccw.address())?;
     } else {
-        push_range(out, data_of(&ccw))?;
+        let data = Range(data_of(&ccw));
+        write!(out, "{data}")?;
     }
     end_column(out, begun, 15)
 }
@@ -84,8 +85,7 @@ fn push_deed(out: &mut String, shown: &Shown, looks: &[Look], at: usize) -> Resu
         }
         (Some(Setting::Mask(byte)), _, _) => {
             push_part(out, "sets mask ")?;
-            let byte = Digits(byte);
-            write!(out, "{byte}")?;
+            write!(out, "{byte:02X}")?;
         }
         (None, Some(verb), Some(ccw)) => {
             push_part(out, verb)?;
@@ -101,52 +101,23 @@ fn push_deed(out: &mut String, shown: &Shown, looks: &[Look], at: usize) -> Resu
 /// What is said of a search that a transfer repeats.
 fn until_found(looks: &[Look], at: usize) -> &'static str {
     let stored_by = &[];
-    match row_at(Scene { looks, stored_by }, at) {
-        Some(row) if row.until.is_some() => " until found",
-        _ => "",
-    }
+    let until = row_at(Scene { looks, stored_by }, at).and_then(|row| row.until);
+    until.map_or("", |_| " until found")
 }
 
-/// The words of the reasons by which a place offends. Offences are in order of addresses.
+/// The words of the reasons by which a place offends.
 fn reasons_of(alloc: Global, offences: &[Offence], place: Place) -> Result<String, AllocError> {
     let mut words = String::new(alloc);
-    for at in first_offence(offences, place.address)..offences.len() {
-        match offences.get(at) {
-            Some(offence) if offence.place == place => {
-                if !words.is_empty() {
-                    words.push_str(", ")?;
-                }
-                words.push_str(offence.reason.word())?;
-            }
-            Some(offence) if offence.place.address == place.address => (),
-            _ => return Ok(words),
+    let (first, end) = indices_at(offences, place.address);
+    for offence in offences.get(first..end).unwrap_or(&[]) {
+        if offence.place == place {
+            push_part(&mut words, offence.reason.word())?;
         }
     }
     Ok(words)
 }
 
-/// Adds the columns of a command's name, and of what its CCW does with the reasons, if there is
-/// something to say.
-fn push_name_and_deed(
-    out: &mut String,
-    (name, width): (&str, usize),
-    deed: &str,
-    reasons: &str,
-) -> Result<(), AllocError> {
-    let begun = out.len();
-    out.push_str(name)?;
-    if !deed.is_empty() || !reasons.is_empty() {
-        end_column(out, begun, width)?;
-    }
-    out.push_str(deed)?;
-    if !deed.is_empty() && !reasons.is_empty() {
-        out.push_str(": ")?;
-    }
-    out.push_str(reasons)?;
-    out.push('\n')
-}
-
-/// Adds a row for a look, marked with the reasons if its place offends.
+/// Adds a row for a look, marked if its place offends. What its CCW does and the reasons come last.
 fn push_row(
     alloc: Global,
     out: &mut String,
@@ -165,12 +136,17 @@ fn push_row(
     push_columns(alloc, out, look.ccw())?;
     let mut deed = String::new(alloc);
     push_deed(&mut deed, shown, looks, at)?;
-    push_name_and_deed(
-        out,
-        (shown_name(look), width),
-        deed.as_str(),
-        reasons.as_str(),
-    )
+    if !deed.is_empty() && !reasons.is_empty() {
+        deed.push_str(": ")?;
+    }
+    deed.push_str(reasons.as_str())?;
+    let begun = out.len();
+    out.push_str(shown_name(look))?;
+    if !deed.is_empty() {
+        end_column(out, begun, width)?;
+    }
+    out.push_str(deed.as_str())?;
+    out.push('\n')
 }
 
 /// The name of what stands at a place, if its code counts.
@@ -181,11 +157,8 @@ fn shown_name(look: &Look) -> &'static str {
 
 /// The width of the column of names.
 fn name_width(looks: &[Look]) -> usize {
-    let mut width = NAME_WIDTH;
-    for look in looks {
-        width = width.max(shown_name(look).len());
-    }
-    width
+    let widest = looks.iter().map(|look| shown_name(look).len()).max();
+    widest.unwrap_or(0).max(NAME_WIDTH)
 }
 
 /// The wide listing of a job that was judged: a header, a row for each CCW and way of entry in
