@@ -1,4 +1,4 @@
--- Addresses of six, seven and eight digits, and sizes, digit by digit and byte by byte.
+-- Bytes, and addresses of seven digits, digit by digit and byte by byte.
 use Rattle.chan_deck.proofs.Names.{[], address_text, ap, arith, bytes_high_first, encode_upper, encode_with, get_or, le-ltb, List, lt-ltb, refl, size_digits, slice_index, STORAGE_LIMIT, sym, to_be_bytes, upper_digits, w32, ℕ, ◌%◌, ◌++◌, ◌/◌, ◌<◌, ◌^◌, ◌∙◌, ◌∷◌, ◌≡◌, ◌≤◌}
 use Rattle.std.proofs.Common.{encode_utf8}
 use Rattle.std.proofs.lemmas.Str.{encode_ascii}
@@ -19,16 +19,8 @@ first_digit n lt =
     let first : n / 16777216 % 256 % 16 ≡ n / 16777216 = omega arith in
     ap (λ k. slice_index upper_digits k ∷ encode_upper (bytes_high_first 3 n)) first
 
-six_digits : (n : ℕ) → n < STORAGE_LIMIT → address_text n ≡ encode_upper (bytes_high_first 3 n)
-six_digits n low = rw (lt-ltb n STORAGE_LIMIT low) refl
-
 seven_digits : (n : ℕ) → STORAGE_LIMIT ≤ n → n < 2 ^ 28 → address_text n ≡ slice_index upper_digits (n / 16777216) ∷ encode_upper (bytes_high_first 3 n)
 seven_digits n low high = rw (le-ltb n STORAGE_LIMIT low, lt-ltb n (2 ^ 28) high) (first_digit n high)
-
-eight_digits : (n : ℕ) → 2 ^ 28 ≤ n → address_text n ≡ encode_upper (to_be_bytes w32 n)
-eight_digits n high =
-    let past : STORAGE_LIMIT ≤ n = omega arith in
-    rw (le-ltb n STORAGE_LIMIT past, le-ltb n (2 ^ 28) high) refl
 
 -- the last six digits of four bytes
 abbrev last_six : List ℕ → List ℕ
@@ -38,17 +30,7 @@ last_digits : (n : ℕ) → last_six (to_be_bytes w32 n) ≡ encode_upper (bytes
 unfolding encode_with
 last_digits n = refl
 
-all_digits : (n : ℕ) → encode_upper (get_or (to_be_bytes w32 n) 0 0 ∷ []) ++ last_six (to_be_bytes w32 n) ≡ encode_upper (to_be_bytes w32 n)
-unfolding encode_with
-all_digits n = refl
-
--- an address whose first byte is zero
-pub short_address : (n : ℕ) (bytes : List ℕ) → bytes ≡ to_be_bytes w32 n → n < 2 ^ 32 → get_or bytes 0 0 ≡ 0 → last_six bytes ≡ address_text n
-short_address n bytes e lt z =
-    let first : n / 16777216 % 256 ≡ 0 = ap (λ b. get_or b 0 0) (sym e) ∙ z in
-    ap last_six e ∙ last_digits n ∙ sym (six_digits n (omega arith))
-
--- one whose first byte has one digit
+-- an address whose first byte has one digit
 pub seven_told : (n : ℕ) (bytes : List ℕ) (k : ℕ) → bytes ≡ to_be_bytes w32 n → n < 2 ^ 32
     → (0 < get_or bytes 0 0) × (get_or bytes 0 0 < 16) → k ≡ get_or bytes 0 0
     → slice_index upper_digits k ∷ last_six bytes ≡ address_text n
@@ -58,26 +40,3 @@ seven_told n bytes k e lt some h =
     ap (λ j. slice_index upper_digits j ∷ last_six bytes) digit
     ∙ ap (λ t. slice_index upper_digits (n / 16777216) ∷ t) (ap last_six e ∙ last_digits n)
     ∙ sym (seven_digits n (omega (arith, some.0, first)) (omega (arith, some.1, first)))
-
--- the same, with the digit as a character
-pub middle_address : (n : ℕ) (bytes : List ℕ) (k : ℕ) → bytes ≡ to_be_bytes w32 n → n < 2 ^ 32
-    → (0 < get_or bytes 0 0) × (get_or bytes 0 0 < 16) → k ≡ get_or bytes 0 0
-    → encode_utf8 (slice_index upper_digits k) ++ last_six bytes ≡ address_text n
-middle_address n bytes k e lt some h =
-    ap (λ t. t ++ last_six bytes) (encode_ascii (slice_index upper_digits k) (digit_ascii k)) ∙ seven_told n bytes k e lt some h
-
--- one whose first byte has two
-pub long_address : (n : ℕ) (bytes : List ℕ) → bytes ≡ to_be_bytes w32 n → n < 2 ^ 32 → 16 ≤ get_or bytes 0 0
-    → encode_upper (get_or bytes 0 0 ∷ []) ++ last_six bytes ≡ address_text n
-long_address n bytes e lt some =
-    let first : get_or bytes 0 0 ≡ n / 16777216 % 256 = ap (λ b. get_or b 0 0) e in
-    ap (λ b. encode_upper (get_or b 0 0 ∷ []) ++ last_six b) e ∙ all_digits n ∙ sym (eight_digits n (omega (arith, some, first)))
-
--- the seven digits of a size
-pub size_told : (n : ℕ) (bytes : List ℕ) (k : ℕ) → bytes ≡ to_be_bytes w32 n → k ≡ get_or bytes 0 0 % 16
-    → encode_utf8 (slice_index upper_digits k) ++ last_six bytes ≡ size_digits n
-unfolding encode_with
-size_told n bytes k e h =
-    let digit : k ≡ n / 16777216 % 256 % 16 = h ∙ ap (λ b. get_or b 0 0 % 16) e in
-    ap (λ t. t ++ last_six bytes) (encode_ascii (slice_index upper_digits k) (digit_ascii k)) ∙ ap (λ j. slice_index upper_digits j ∷ last_six bytes) digit
-    ∙ ap (λ t. slice_index upper_digits (n / 16777216 % 256 % 16) ∷ t) (ap last_six e ∙ last_digits n)

@@ -1,6 +1,6 @@
 //! What the line `because` says of an offence, which tests hold.
 
-use crate::texts::{Address, Digits, Range, Size};
+use crate::texts::Range;
 use ccw_core::Area;
 use chan_walk::{Evidence, GivenBytes, Outside};
 use ckd_core::{Command, FileMask, LAST_CYLINDER, further_name, lookup};
@@ -9,67 +9,49 @@ use std::fmt::Write as _;
 
 /// The name of a command of the table, or `unknown` for a code of none.
 fn name_of_command(command: Option<Command>) -> &'static str {
-    match command {
-        Some(command) => command.name(),
-        None => "unknown",
-    }
+    command.map_or("unknown", |command| command.name())
 }
 
 /// Adds that a range leaves so many bytes of storage.
 fn push_outside(out: &mut String, range: Area, length: u32) -> Result<(), AllocError> {
     let range = Range(range);
-    let length = Size(length);
-    write!(out, "{range} is not in storage of {length} bytes")
-}
-
-/// Whether two areas have the same bytes.
-fn have_same_bytes(one: Area, other: Area) -> bool {
-    one.start == other.start && one.len == other.len
+    write!(out, "{range} is not in storage of {length:07X} bytes")
 }
 
 /// Adds that none of some data is lent, or that a part of it isn't.
 fn push_unlent(out: &mut String, range: Area, gap: Area, purpose: &str) -> Result<(), AllocError> {
-    if have_same_bytes(gap, range) {
-        let range = Range(range);
-        return write!(out, "none of {range} is lent for {purpose}");
+    let (whole, part) = (Range(range), Range(gap));
+    if gap == range {
+        return write!(out, "none of {whole} is lent for {purpose}");
     }
-    let range = Range(range);
-    let gap = Range(gap);
-    write!(out, "{gap} of {range} is not lent for {purpose}")
+    write!(out, "{part} of {whole} is not lent for {purpose}")
 }
 
 /// Adds that the command table hasn't a code, with the name that a manual has for it.
 fn push_unknown(out: &mut String, code: u8) -> Result<(), AllocError> {
-    let digits = Digits(code);
     match further_name(code) {
-        Some(name) => write!(out, "code {digits} ({name}) is not in the table"),
-        None => write!(out, "code {digits} is not in the table"),
+        Some(name) => write!(out, "code {code:02X} ({name}) is not in the table"),
+        None => write!(out, "code {code:02X} is not in the table"),
     }
 }
 
 /// Adds what is wrong with a byte that is set as the file mask.
 fn push_weaker(out: &mut String, byte: u8, mask: FileMask) -> Result<(), AllocError> {
-    let digits = Digits(byte);
     let Some(weaker) = FileMask::new(byte) else {
-        return write!(out, "mask byte {digits} is no file mask");
+        return write!(out, "mask byte {byte:02X} is no file mask");
     };
     let name = name_of_command(weaker.least_permitted(mask));
-    let mask = Digits(mask.byte());
+    let mask = mask.byte();
     write!(
         out,
-        "mask byte {digits} is not as strict as {mask}: it permits {name}"
+        "mask byte {byte:02X} is not as strict as {mask:02X}: it permits {name}"
     )
 }
 
 /// Adds what is wrong with the argument of a seek.
 fn push_seek(out: &mut String, outside: Outside) -> Result<(), AllocError> {
     match outside {
-        Outside::Bin(bin) => {
-            let [high, low] = bin.to_be_bytes();
-            let high = Digits(high);
-            let low = Digits(low);
-            write!(out, "bin {high}{low} is not zero")
-        }
+        Outside::Bin(bin) => write!(out, "bin {bin:04X} is not zero"),
         Outside::Cylinder(cylinder) if cylinder > LAST_CYLINDER => {
             write!(
                 out,
@@ -81,49 +63,19 @@ fn push_seek(out: &mut String, outside: Outside) -> Result<(), AllocError> {
     }
 }
 
-/// Whether an address comes right after another.
-fn follows(one: u32, other: u32) -> bool {
-    u64::from(other) == u64::from(one) + 1
-}
-
-/// Adds the end of a range behind its first address, unless it has that address alone.
-fn push_end(out: &mut String, begin: u32, last: u32) -> Result<(), AllocError> {
-    if last == begin {
-        return Ok(());
-    }
-    let last = Address(last);
-    write!(out, "-{last}")
-}
-
-/// Adds what stands between two addresses in a row of them: nothing where the second follows the
-/// first, and else the end of the range that begins with `begin`, and the begin of another.
-fn push_between(out: &mut String, begin: u32, one: u32, other: u32) -> Result<(), AllocError> {
-    if follows(one, other) {
-        return Ok(());
-    }
-    push_end(out, begin, one)?;
-    let other = Address(other);
-    write!(out, ", {other}")
-}
-
-/// Where the range of the second of two addresses begins, if that of the first does with `begin`.
-fn begin_after(begin: u32, one: u32, other: u32) -> u32 {
-    if follows(one, other) { begin } else { other }
-}
-
 /// Adds the ranges of some addresses in their order.
 fn push_ranges(out: &mut String, addresses: &[u32]) -> Result<(), AllocError> {
-    if addresses.is_empty() {
-        return Ok(());
+    let ranges = addresses.chunk_by(|one, other| one.checked_add(1) == Some(*other));
+    for (at, range) in ranges.enumerate() {
+        out.push_str(if at == 0 { "" } else { ", " })?;
+        if let (Some(first), Some(last)) = (range.first(), range.last()) {
+            write!(out, "{first:06X}")?;
+            if first != last {
+                write!(out, "-{last:06X}")?;
+            }
+        }
     }
-    let mut begin = addresses[0];
-    let first = Address(begin);
-    write!(out, "{first}")?;
-    for at in 1..addresses.len() {
-        push_between(out, begin, addresses[at - 1], addresses[at])?;
-        begin = begin_after(begin, addresses[at - 1], addresses[at]);
-    }
-    push_end(out, begin, addresses[addresses.len() - 1])
+    Ok(())
 }
 
 /// Adds the bytes of an argument, and where they stand.
@@ -132,13 +84,6 @@ fn push_given(alloc: Global, out: &mut String, given: GivenBytes) -> Result<(), 
     out.push_str(bytes.as_str())?;
     out.push_str(" at ")?;
     push_ranges(out, given.addresses())
-}
-
-/// Adds how many bytes there are of an argument that isn't whole, and these.
-fn push_short(alloc: Global, out: &mut String, given: GivenBytes) -> Result<(), AllocError> {
-    let count = given.count;
-    write!(out, "the argument ends after {count} of 6 bytes: ")?;
-    push_given(alloc, out, given)
 }
 
 /// Adds what is wrong with a seek, and its argument, if it has one.
@@ -156,22 +101,12 @@ fn push_sought(
     push_given(alloc, out, argument)
 }
 
-/// What is wrong with a transfer in channel that stands at the first place, or doesn't.
-fn transfer_word(first: bool) -> &'static str {
-    if first {
-        "a transfer stands first"
-    } else {
-        "a transfer leads to a transfer"
-    }
-}
-
 /// Adds what the byte that is stored over is to the place that takes it.
 fn push_taken(out: &mut String, byte: u32, argument: Option<GivenBytes>) -> Result<(), AllocError> {
-    let byte = Address(byte);
     let Some(argument) = argument else {
-        return write!(out, "the mask byte {byte}");
+        return write!(out, "the mask byte {byte:06X}");
     };
-    write!(out, "{byte} of the argument ")?;
+    write!(out, "{byte:06X} of the argument ")?;
     push_ranges(out, argument.addresses())
 }
 
@@ -180,8 +115,7 @@ fn push_change(out: &mut String, evidence: Evidence) -> Result<(), AllocError> {
     match evidence {
         Evidence::ChangesCcw { data, ccw } => {
             let data = Range(data);
-            let ccw = Address(ccw);
-            write!(out, "it stores {data}, over the CCW at {ccw}")
+            write!(out, "it stores {data}, over the CCW at {ccw:06X}")
         }
         Evidence::ChangesArgument {
             data,
@@ -192,8 +126,7 @@ fn push_change(out: &mut String, evidence: Evidence) -> Result<(), AllocError> {
             let data = Range(data);
             write!(out, "it stores {data}, over ")?;
             push_taken(out, byte, argument)?;
-            let taker = Address(taker);
-            write!(out, " of {taker}")
+            write!(out, " of {taker:06X}")
         }
         _ => Ok(()),
     }
@@ -206,31 +139,28 @@ pub(crate) fn push_evidence(
     evidence: Evidence,
 ) -> Result<(), AllocError> {
     match evidence {
-        Evidence::Misaligned { address } => {
-            let address = Address(address);
-            write!(out, "{address} is not a multiple of 8")
-        }
+        Evidence::Misaligned { address } => write!(out, "{address:06X} is not a multiple of 8"),
         Evidence::OutsideStorage { ccw, length } => push_outside(out, ccw, length),
-        Evidence::TransferNotAllowed { first } => out.push_str(transfer_word(first)),
-        Evidence::InvalidCode { code } => {
-            let code = Digits(code);
-            write!(out, "code {code} is invalid")
+        Evidence::TransferNotAllowed { first: true } => out.push_str("a transfer stands first"),
+        Evidence::TransferNotAllowed { first: false } => {
+            out.push_str("a transfer leads to a transfer")
         }
-        Evidence::BadFormat { bits } => {
-            let bits = Digits(bits);
-            write!(out, "flag bits {bits} are on")
-        }
+        Evidence::InvalidCode { code } => write!(out, "code {code:02X} is invalid"),
+        Evidence::BadFormat { bits } => write!(out, "flag bits {bits:02X} are on"),
         Evidence::ZeroCount => out.push_str("the count is zero"),
         Evidence::DataOutside { data, length } => push_outside(out, data, length),
         Evidence::NotInTable { code } => push_unknown(out, code),
         Evidence::Inhibited { mask, code } => {
-            let mask = Digits(mask.byte());
-            let name = name_of_command(lookup(code));
-            write!(out, "mask {mask} inhibits {name}")
+            let (mask, name) = (mask.byte(), name_of_command(lookup(code)));
+            write!(out, "mask {mask:02X} inhibits {name}")
         }
         Evidence::StoreNotLent { data, gap } => push_unlent(out, data, gap, "storing"),
         Evidence::FetchNotLent { data, gap } => push_unlent(out, data, gap, "fetching"),
-        Evidence::ShortSeek { given } => push_short(alloc, out, given),
+        Evidence::ShortSeek { given } => {
+            let count = given.count;
+            write!(out, "the argument ends after {count} of 6 bytes: ")?;
+            push_given(alloc, out, given)
+        }
         Evidence::SeekOutside { outside, argument } => push_sought(alloc, out, outside, argument),
         Evidence::ChangesCcw { .. } | Evidence::ChangesArgument { .. } => push_change(
             out, evidence,

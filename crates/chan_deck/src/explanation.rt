@@ -7,7 +7,7 @@ ghost use Rattle.chan_deck.specs.Explanation.{IsExplanationText, IsOffenceText, 
 
 use crate::evidence::push_evidence;
 use crate::listing::{push_words, standing_at};
-use crate::texts::{Address, Digits, verdict_text};
+use crate::texts::{Digits, verdict_text};
 use chan_walk::{Evidence, Job, Offence, Place, Setting, Survey, Verdict, setting_at};
 use chan_why::Witness;
 use ckd_core::Track;
@@ -76,10 +76,10 @@ fn cause_text(
     push_evidence(alloc, &mut text, evidence)?;
     text.push('\n')?;
     if let Some(place) = stored_over {
-        let address = Address(place.address);
+        let address = place.address;
         write!(
             text,
-            "stored over by {address}: what will stand there is not judged\n"
+            "stored over by {address:06X}: what will stand there is not judged\n"
         )?;
     }
     Ok(text)
@@ -97,9 +97,8 @@ fn push_also(
     offence: Offence,
     evidence: Option<Evidence>,
 ) -> Result<(), AllocError> {
-    let address = Address(offence.place.address);
-    let word = offence.reason.word();
-    write!(out, "also {address} {word}\n")?;
+    let (address, word) = (offence.place.address, offence.reason.word());
+    write!(out, "also {address:06X} {word}\n")?;
     if let Some(evidence) = evidence {
         out.push_str("because ")?;
         push_evidence(alloc, out, evidence)?;

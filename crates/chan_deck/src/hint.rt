@@ -4,7 +4,6 @@ use crate::cause::Cause;
 use crate::item::Item;
 use crate::keyword::{FORMS, Form, begun_as, forms_behind};
 use crate::lines::next_line;
-use crate::texts::{Address, Digits, Size};
 use crate::version::VersionNumber;
 use ccw_core::STORAGE_LIMIT;
 use std::alloc::{AllocError, Global};
@@ -34,41 +33,18 @@ struct Spot<'a> {
     is_whole: bool,
 }
 
-/// Whether an item is the header of version 2.
-fn is_second_header(item: Item) -> bool {
+/// Adds what one more line says to the content of the lines before.
+fn add_line(before: &mut Before, item: Item) {
     match item {
-        Item::Header(VersionNumber::Two) => true,
-        _ => false,
+        Item::Header(VersionNumber::Two) if before.last.is_none() => before.is_second = true,
+        Item::Storage(size) => before.size = before.size.or(Some(size)),
+        _ => {}
     }
+    before.last = Some(item);
 }
 
-/// How many bytes storage has, if the item says so.
-fn storage_said(item: Item) -> Option<u32> {
-    match item {
-        Item::Storage(size) => Some(size),
-        _ => None,
-    }
-}
-
-/// The content of some lines and one more.
-fn one_more(before: Before, item: Item) -> Before {
-    Before {
-        last: Some(item),
-        is_second: if before.last.is_some() {
-            before.is_second
-        } else {
-            is_second_header(item)
-        },
-        size: match before.size {
-            Some(size) => Some(size),
-            None => storage_said(item),
-        },
-    }
-}
-
-/// The content of the first `count` whole lines, or of all if there are fewer, and the rest of the
-/// text.
-fn skip_lines(text: &[u8], count: u64) -> (Before, &[u8]) {
+/// The place after the first `count` whole lines, or after all if there are fewer.
+fn spot_behind(text: &[u8], count: u64) -> Spot<'_> {
     let mut before = Before {
         last: None,
         is_second: false,
@@ -77,28 +53,19 @@ fn skip_lines(text: &[u8], count: u64) -> (Before, &[u8]) {
     let mut rest = text;
     for _ in 0..count {
         let Some((line, after)) = next_line(rest) else {
-            return (before, rest);
+            break;
         };
-        before = one_more(before, Item::read(line));
+        add_line(&mut before, Item::read(line));
         rest = after;
     }
-    (before, rest)
-}
-
-/// The place after `count` lines.
-fn spot_behind(text: &[u8], count: u64) -> Spot<'_> {
-    let (before, rest) = skip_lines(text, count);
-    match next_line(rest) {
-        Some((line, _)) => Spot {
-            before,
-            found: line,
-            is_whole: true,
-        },
-        None => Spot {
-            before,
-            found: rest,
-            is_whole: false,
-        },
+    let (found, is_whole) = match next_line(rest) {
+        Some((line, _)) => (line, true),
+        None => (rest, false),
+    };
+    Spot {
+        before,
+        found,
+        is_whole,
     }
 }
 
@@ -119,8 +86,7 @@ pub(crate) fn push_shown(out: &mut String, line: &[u8], most: usize) -> Result<(
         if width == 1 {
             out.push(char::from(*byte))?;
         } else {
-            let digits = Digits(*byte);
-            write!(out, "\\x{digits}")?;
+            write!(out, "\\x{byte:02X}")?;
         }
     }
     Ok(())
@@ -147,11 +113,9 @@ fn push_found(out: &mut String, spot: &Spot<'_>) -> Result<(), AllocError> {
 
 /// Adds the keywords of some forms.
 fn push_keywords(out: &mut String, forms: &[Form]) -> Result<(), AllocError> {
-    let mut comma = "";
-    for form in forms {
-        let word = form.keyword();
-        write!(out, "{comma}{word}")?;
-        comma = ", ";
+    for (at, form) in forms.iter().enumerate() {
+        out.push_str(if at == 0 { "" } else { ", " })?;
+        out.push_str(form.keyword())?;
     }
     Ok(())
 }
@@ -188,7 +152,11 @@ fn push_bytes(out: &mut String, spot: &Spot<'_>) -> Result<(), AllocError> {
     if spot.before.last.is_none() && spot.found.starts_with(BYTE_ORDER_MARK) {
         out.push_str("; a byte-order mark comes before it")?;
     }
-    if has_pair(spot.found, 0xC2, 0xA0) {
+    if spot
+        .found
+        .windows(2)
+        .any(|pair| pair == b"\xC2\xA0".as_slice())
+    {
         out.push_str("; \\xC2\\xA0 is a no-break blank")?;
     }
     if spot.found.contains(&b'\t') {
@@ -205,16 +173,6 @@ fn push_bytes(out: &mut String, spot: &Spot<'_>) -> Result<(), AllocError> {
         out.push_str("; lines end with a line feed alone")?;
     }
     Ok(())
-}
-
-/// Whether a line has two bytes one behind the other.
-fn has_pair(line: &[u8], first: u8, second: u8) -> bool {
-    for at in 1..line.len() {
-        if line[at - 1] == first && line[at] == second {
-            return true;
-        }
-    }
-    false
 }
 
 /// Adds the forms that may come at a spot: the pattern of the only one, or of the one that the line
@@ -243,21 +201,16 @@ fn push_place(out: &mut String, spot: &Spot<'_>) -> Result<(), AllocError> {
         Item::Put(address, _) => address,
         _ => 0,
     };
-    let is_above = match above {
-        Some(above) => above < address,
-        None => true,
-    };
-    if address % 8 == 0 && is_above {
-        let size = Size(spot.before.size.unwrap_or(0));
+    if address % 8 == 0 && above.is_none_or(|above| above < address) {
+        let size = spot.before.size.unwrap_or(0);
         return write!(
             out,
-            "an address whose eight bytes lie in storage of {size} bytes"
+            "an address whose eight bytes lie in storage of {size:07X} bytes"
         );
     }
     out.push_str("an address")?;
     if let Some(above) = above {
-        let above = Address(above);
-        write!(out, " above {above}")?;
+        write!(out, " above {above:06X}")?;
     }
     out.push_str(" that is a multiple of 8")
 }
@@ -282,8 +235,7 @@ fn push_size(out: &mut String, spot: &Spot<'_>) -> Result<(), AllocError> {
     let digits = spot.found.get("storage ".len()..).unwrap_or(b"");
     match str::from_utf8(digits).unwrap_or("").parse::<u32>() {
         Ok(number) if number % 8 == 0 && number <= STORAGE_LIMIT => {
-            let size = Size(number);
-            write!(out, "; decimal {number} is {size}")
+            write!(out, "; decimal {number} is {number:07X}")
         }
         _ => Ok(()),
     }
@@ -336,31 +288,31 @@ fn push_expected(out: &mut String, spot: &Spot<'_>, cause: Cause) -> Result<(), 
 /// the one that the line begins like, doesn't have at its place, if the line is text.
 fn push_caret(out: &mut String, spot: &Spot<'_>, cause: Cause) -> Result<(), AllocError> {
     let form = match (cause, forms_behind(spot.before.last, spot.before.is_second)) {
-        (Cause::Form | Cause::Header, [form]) => *form,
-        (Cause::Form, forms) => match begun_as(forms, spot.found) {
-            Some(form) => form,
-            None => return Ok(()),
-        },
-        _ => return Ok(()),
+        (Cause::Form | Cause::Header, [form]) => Some(*form),
+        (Cause::Form, forms) => begun_as(forms, spot.found),
+        _ => None,
     };
-    if spot.found.is_empty() || is_no_text(spot) {
-        return Ok(());
+    match form {
+        Some(form) if !spot.found.is_empty() && !is_no_text(spot) => {
+            push_caret_at(out, spot.found, fitting(form, spot.found))
+        }
+        _ => Ok(()),
     }
-    push_caret_at(out, spot.found, fitting(form, spot.found))
 }
 
-/// Adds a line with a caret under the character at a column of a line that was found.
+/// Adds a line with a caret under the character at a column of a line that stands behind `found `.
 pub(crate) fn push_caret_at(
     out: &mut String,
     found: &[u8],
     column: usize,
 ) -> Result<(), AllocError> {
-    let mut indent = 0usize;
+    out.push_str("      ")?;
     for at in 0..column {
-        indent = indent.saturating_add(width_at(found, at));
-    }
-    for _ in 0.."found ".len().saturating_add(indent) {
-        out.push(' ')?;
+        out.push_str(if width_at(found, at) == 1 {
+            " "
+        } else {
+            "    "
+        })?;
     }
     out.push_str("^\n")
 }

@@ -1,8 +1,7 @@
 //! The notes on a job as text, which tests hold.
 
 use crate::listing::way_word;
-use crate::texts::{Address, Digits, Size, push_address};
-use ccw_core::{Area, Ccw, Storage};
+use ccw_core::{Area, Storage};
 use chan_walk::{Entry, Job, Limit, Look, Place, Reason, look_at};
 use chan_why::Notes;
 use std::alloc::{AllocError, Global};
@@ -43,37 +42,22 @@ const STORAGE_ENDS: &str =
 /// How many notes of one kind are written; a last line counts the others.
 const MOST: usize = 100;
 
-/// Two areas as one, if the second begins where the first ends and an area can be so long.
-fn joined(one: Area, other: Area) -> Option<Area> {
-    let end = u64::from(one.start) + u64::from(one.len);
-    if end != u64::from(other.start) {
-        return None;
-    }
-    let len = one.len.checked_add(other.len)?;
-    Some(Area {
-        start: one.start,
-        len,
-    })
-}
-
-/// The areas, with neighbours that adjoin joined into one.
+/// The areas, with neighbours that adjoin joined into one, if an area can be so long.
 fn join_neighbours(alloc: Global, areas: &[Area]) -> Result<Vec<Area>, AllocError> {
-    let mut runs = Vec::new(alloc);
-    let Some((first, rest)) = areas.split_first() else {
-        return Ok(runs);
-    };
-    let mut run = *first;
-    for area in rest {
-        match joined(run, *area) {
-            Some(longer) => run = longer,
-            None => {
-                runs.push(run)?;
-                run = *area;
-            }
+    let mut runs: Vec<Area> = Vec::new(alloc);
+    for area in areas {
+        match runs.last_mut() {
+            Some(run) if adjoin(*run, *area) => run.len = run.len.saturating_add(area.len),
+            _ => runs.push(*area)?,
         }
     }
-    runs.push(run)?;
     Ok(runs)
+}
+
+/// Whether an area begins where another ends, and both together aren't too long for one area.
+fn adjoin(one: Area, other: Area) -> bool {
+    u64::from(one.start) + u64::from(one.len) == u64::from(other.start)
+        && one.len.checked_add(other.len).is_some()
 }
 
 /// Adds the line that counts the notes of a kind beyond the first `MOST`, if there are any.
@@ -94,10 +78,8 @@ fn push_areas(
     areas: &[Area],
 ) -> Result<(), AllocError> {
     let runs = join_neighbours(alloc, areas)?;
-    for run in &runs[..runs.len().min(MOST)] {
-        let start = Address(run.start);
-        let len = Address(run.len);
-        write!(out, "note: {word} {start} {len}{what}\n")?;
+    for Area { start, len } in runs.iter().take(MOST) {
+        write!(out, "note: {word} {start:06X} {len:06X}{what}\n")?;
     }
     push_more(out, runs.len())
 }
@@ -106,42 +88,29 @@ fn push_areas(
 /// says how the CCW is entered, since the program may end where the same CCW is entered otherwise.
 fn push_hang(out: &mut String, hang: Option<Place>) -> Result<(), AllocError> {
     if let Some(place) = hang {
-        let address = Address(place.address);
-        let way = way_word(place.entered);
-        write!(out, "note: from {address} (entered {way}){HANGS}\n")?;
+        let (address, way) = (place.address, way_word(place.entered));
+        write!(out, "note: from {address:06X} (entered {way}){HANGS}\n")?;
     }
     Ok(())
 }
 
 /// Adds the notes of a kind on the CCWs at some addresses.
 fn push_ccws(out: &mut String, what: &str, addresses: &[u32]) -> Result<(), AllocError> {
-    for address in &addresses[..addresses.len().min(MOST)] {
-        let address = Address(*address);
-        write!(out, "note: {address}{what}\n")?;
+    for address in addresses.iter().take(MOST) {
+        write!(out, "note: {address:06X}{what}\n")?;
     }
     push_more(out, addresses.len())
 }
 
 /// Adds the notes on the CCWs at some addresses of storage whose byte 5 isn't zero, with that byte.
 fn push_spare(out: &mut String, storage: Storage<'_>, addresses: &[u32]) -> Result<(), AllocError> {
-    for number in &addresses[..addresses.len().min(MOST)] {
-        let address = Address(*number);
-        write!(out, "note: {address} has ")?;
-        push_byte(out, storage.ccw_at(*number))?;
-        write!(out, "{SPARE}\n")?;
+    for address in addresses.iter().take(MOST) {
+        if let Some(ccw) = storage.ccw_at(*address) {
+            let byte = ccw.spare();
+            write!(out, "note: {address:06X} has {byte:02X}{SPARE}\n")?;
+        }
     }
     push_more(out, addresses.len())
-}
-
-/// Adds byte 5 of a CCW, if there is one.
-fn push_byte(out: &mut String, ccw: Option<Ccw>) -> Result<(), AllocError> {
-    match ccw {
-        Some(ccw) => {
-            let byte = Digits(ccw.spare());
-            write!(out, "{byte}")
-        }
-        None => Ok(()),
-    }
 }
 
 /// The notes on a job with this storage as text, in this order:
@@ -163,29 +132,16 @@ pub fn notes_text(
     hang: Option<Place>,
 ) -> Result<String, AllocError> {
     let mut text = String::new(alloc);
-    push_areas(
-        alloc,
-        &mut text,
-        "fetch",
-        PAST_STORAGE,
-        &notes.fetch_past_storage,
-    )?;
-    push_areas(
-        alloc,
-        &mut text,
-        "store",
-        PAST_STORAGE,
-        &notes.store_past_storage,
-    )?;
-    push_areas(alloc, &mut text, "fetch", UNUSED, &notes.unused_fetch)?;
-    push_areas(alloc, &mut text, "store", UNUSED, &notes.unused_store)?;
-    push_areas(
-        alloc,
-        &mut text,
-        "keep",
-        MACHINE_STORES,
-        &notes.machine_stores,
-    )?;
+    let kinds = [
+        ("fetch", PAST_STORAGE, &notes.fetch_past_storage),
+        ("store", PAST_STORAGE, &notes.store_past_storage),
+        ("fetch", UNUSED, &notes.unused_fetch),
+        ("store", UNUSED, &notes.unused_store),
+        ("keep", MACHINE_STORES, &notes.machine_stores),
+    ];
+    for (word, what, areas) in kinds {
+        push_areas(alloc, &mut text, word, what, areas)?;
+    }
     push_hang(&mut text, hang)?;
     push_ccws(&mut text, INTERRUPTS, &notes.interrupting)?;
     push_ccws(&mut text, ENDS_THERE, &notes.ending)?;
@@ -196,8 +152,7 @@ pub fn notes_text(
 /// The note on an image of storage whose ends may be wrong: how long storage is, and which options
 /// say so. An error means that an allocation failed.
 pub(crate) fn storage_note(alloc: Global, size: u32) -> Result<String, AllocError> {
-    let size = Size(size);
-    format!(in alloc; "note: storage has {size}{STORAGE_ENDS}")
+    format!(in alloc; "note: storage has {size:07X}{STORAGE_ENDS}")
 }
 
 /// The note that areas seem exchanged, for a verdict with this reason: what isn't lent one way is
@@ -213,15 +168,13 @@ pub fn exchange_note<'a>(reason: Reason) -> &'a str {
 /// The note on an image that begins at `at` and ends past storage of `size` bytes: how much room
 /// there is. An error means that an allocation failed.
 pub fn room_note(alloc: Global, at: u32, size: u32) -> Result<String, AllocError> {
-    let begins = Address(at);
-    let all = Size(size);
     match size.checked_sub(at) {
         Some(room) => format!(in alloc;
-            "note: the image begins at {begins} and has more than {room:X} bytes, but storage has \
-             {all}\n"
+            "note: the image begins at {at:06X} and has more than {room:X} bytes, but storage has \
+             {size:07X}\n"
         ),
         None => format!(in alloc;
-            "note: the image begins at {begins}, past storage of {all} bytes\n"
+            "note: the image begins at {at:06X}, past storage of {size:07X} bytes\n"
         ),
     }
 }
@@ -230,23 +183,12 @@ pub fn room_note(alloc: Global, at: u32, size: u32) -> Result<String, AllocError
 /// which no run comes: a well-formed one of a known command, or a transfer into the program. An
 /// error means that an allocation failed.
 pub fn behind_note(alloc: Global, job: &Job, looks: &[Look]) -> Result<String, AllocError> {
-    let mut text = String::new(alloc);
-    let address = last_address(looks).saturating_add(8);
-    if is_like_ccw(job, looks, address) {
-        text.push_str("note: ")?;
-        push_address(&mut text, address)?;
-        text.push_str(" looks like a CCW, but no run comes there\n")?;
+    let last = looks.iter().map(|look| look.place().address).max();
+    let address = last.unwrap_or(0).saturating_add(8);
+    if !is_like_ccw(job, looks, address) {
+        return Ok(String::new(alloc));
     }
-    Ok(text)
-}
-
-/// The greatest address of some looks.
-fn last_address(looks: &[Look]) -> u32 {
-    let mut last = 0;
-    for look in looks {
-        last = look.place().address.max(last);
-    }
-    last
+    format!(in alloc; "note: {address:06X} looks like a CCW, but no run comes there\n")
 }
 
 /// Whether what stands at an address looks like a CCW of a program.
@@ -257,31 +199,20 @@ fn is_like_ccw(job: &Job, looks: &[Look], address: u32) -> bool {
         after_transfer: false,
     };
     let look = look_at(job, place);
-    let is_well_formed = match look.fault() {
-        Some(evidence) => evidence.reason().number() > Reason::NotInTable.number(),
-        None => true,
-    };
+    let is_well_formed = look.fault().is_none_or(|fault| fault.reason().number()
+        > Reason::NotInTable.number());
     match look.ccw() {
-        Some(ccw) if ccw.is_transfer() => has_place_at(looks, ccw.address()),
+        Some(ccw) if ccw.is_transfer() => looks
+            .iter()
+            .any(|look| look.place().address == ccw.address()),
         Some(ccw) => is_well_formed && ccw.spare() == 0,
         None => false,
     }
 }
 
-/// Whether some look is at an address.
-fn has_place_at(looks: &[Look], address: u32) -> bool {
-    for look in looks {
-        if look.place().address == address {
-            return true;
-        }
-    }
-    false
-}
-
 /// The note that no offence is at an address. An error means that an allocation failed.
 pub fn absent_note(alloc: Global, address: u32) -> Result<String, AllocError> {
-    let address = Address(address);
-    format!(in alloc; "note: no offence at {address}\n")
+    format!(in alloc; "note: no offence at {address:06X}\n")
 }
 
 /// What the limit on places is, and how it may be raised. An error means that an allocation failed.

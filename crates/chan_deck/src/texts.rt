@@ -31,66 +31,18 @@ impl fmt::Display for Digits {
     }
 }
 
-/// An address as text: six digits, or as many as it needs.
-#[derive(Clone, Copy)]
-pub(crate) struct Address(pub(crate) u32);
-
-impl fmt::Display for Address {
-    ghost use Rattle.std.specs.Prelude.{Some};
-    ghost use Rattle.chan_deck.specs.VerdictLine.{address_text};
-
-    ghost output = { λ a. Some (address_text a.0) };
-
-    fn fmt<W: fmt::Write>(&self, f: &mut fmt::Formatter<W>) -> fmt::Result {
-        let [first, high, middle, low] = self.0.to_be_bytes();
-        let high = Digits(high);
-        let middle = Digits(middle);
-        let low = Digits(low);
-        if first == 0 {
-            return write!(f, "{high}{middle}{low}");
-        }
-        if first >= 16 {
-            let first = Digits(first);
-            return write!(f, "{first}{high}{middle}{low}");
-        }
-        let digit = DIGITS[usize::from(first)];
-        write!(f, "{digit}{high}{middle}{low}")
-    }
-}
-
-/// A number of bytes of storage as text: seven digits, of which it needs no more.
-#[derive(Clone, Copy)]
-pub(crate) struct Size(pub(crate) u32);
-
-impl fmt::Display for Size {
-    ghost use Rattle.std.specs.Prelude.{Some};
-    ghost use Rattle.chan_deck.specs.Item.{size_digits};
-
-    ghost output = { λ n. Some (size_digits n.0) };
-
-    fn fmt<W: fmt::Write>(&self, f: &mut fmt::Formatter<W>) -> fmt::Result {
-        let [first, high, middle, low] = self.0.to_be_bytes();
-        let digit = DIGITS[usize::from(first % 16)];
-        let high = Digits(high);
-        let middle = Digits(middle);
-        let low = Digits(low);
-        write!(f, "{digit}{high}{middle}{low}")
-    }
-}
-
 /// A range of storage as text: the addresses of its first byte and of its last, if it is another.
 #[derive(Clone, Copy)]
 pub(crate) struct Range(pub(crate) Area);
 
 impl fmt::Display for Range {
     fn fmt<W: fmt::Write>(&self, f: &mut fmt::Formatter<W>) -> fmt::Result {
-        let last = self.0.start.saturating_add(self.0.len.saturating_sub(1));
-        let first = Address(self.0.start);
-        if last == self.0.start {
-            return write!(f, "{first}");
+        let first = self.0.start;
+        let last = first.saturating_add(self.0.len.saturating_sub(1));
+        if last == first {
+            return write!(f, "{first:06X}");
         }
-        let last = Address(last);
-        write!(f, "{first}-{last}")
+        write!(f, "{first:06X}-{last:06X}")
     }
 }
 
@@ -108,17 +60,6 @@ pub(crate) fn push_address(out: &mut String, address: u32) -> Result<(), AllocEr
         return push_digits(out, &[high, middle, low]);
     }
     push_digits(out, &[high, middle, low])
-}
-
-/// Adds the addresses of the first byte of an area and of its last, if that is another.
-pub(crate) fn push_range(out: &mut String, area: Area) -> Result<(), AllocError> {
-    let last = area.start.saturating_add(area.len.saturating_sub(1));
-    push_address(out, area.start)?;
-    if last == area.start {
-        return Ok(());
-    }
-    out.push('-')?;
-    push_address(out, last)
 }
 
 /// Adds a verdict to a text: `yes`, or `no`, the address and the reason's word.
