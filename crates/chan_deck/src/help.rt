@@ -7,6 +7,9 @@ use ckd_core::{Command, Device, FileMask, Kind, lookup};
 use std::alloc::{AllocError, Global};
 use std::fmt::Write as _;
 
+/// The begin of the help on data that is stored over what may not change.
+const ELSEWHERE: &str = "help: store the data elsewhere, so that ";
+
 /// The lines of help on an offence with this witness and this reason: the line of a deck that cures
 /// it, or what to change in the program, and which word to look up. An error means that an
 /// allocation failed.
@@ -29,26 +32,14 @@ fn push_cure(out: &mut String, job: &Job, witness: &Witness) -> Result<(), Alloc
         Some(Evidence::StoreNotLent { data, .. }) => push_lending(out, "store", data),
         Some(Evidence::FetchNotLent { data, .. }) => push_lending(out, "fetch", data),
         Some(Evidence::SeekOutside { outside, .. }) => push_extent(out, job.device, outside),
-        Some(Evidence::Inhibited { mask, code }) => match lookup(code) {
-            Some(command) => push_command(out, mask, command),
-            None => Ok(()),
-        },
-        Some(Evidence::WeakensMask { byte, mask }) => match FileMask::new(byte) {
-            Some(set) => push_mask(out, mask, set),
-            None => Ok(()),
-        },
+        Some(Evidence::Inhibited { mask, code }) => push_command(out, mask, lookup(code)),
+        Some(Evidence::WeakensMask { byte, mask }) => push_mask(out, mask, FileMask::new(byte)),
         Some(Evidence::ChangesCcw { ccw, .. }) => {
-            write!(
-                out,
-                "help: store the data elsewhere, so that the CCW at {ccw:06X} stays\n"
-            )?;
+            write!(out, "{ELSEWHERE}the CCW at {ccw:06X} stays\n")?;
             push_parting(out, job, witness)
         }
         Some(Evidence::ChangesArgument { taker, .. }) => {
-            write!(
-                out,
-                "help: store the data elsewhere, so that the argument of {taker:06X} stays\n"
-            )?;
+            write!(out, "{ELSEWHERE}the argument of {taker:06X} stays\n")?;
             push_parting(out, job, witness)
         }
         _ => Ok(()),
@@ -77,58 +68,46 @@ fn push_extent(out: &mut String, device: Device, outside: Outside) -> Result<(),
     }
 }
 
-/// Adds with which mask a command is permitted.
-fn push_command(out: &mut String, mask: FileMask, command: Command) -> Result<(), AllocError> {
-    match strictest(mask, mask, Some(command)) {
-        Some(laxer) => {
-            let (byte, name) = (laxer.byte(), command.name());
-            write!(out, "help: with \"mask {byte:02X}\" {name} is permitted\n")
-        }
-        None => Ok(()),
+/// Adds with which mask a command is permitted, if there is one.
+fn push_command(
+    out: &mut String,
+    mask: FileMask,
+    command: Option<Command>,
+) -> Result<(), AllocError> {
+    if let (Some(command), Some(laxer)) = (command, strictest(mask, mask, command)) {
+        let (byte, name) = (laxer.byte(), command.name());
+        write!(out, "help: with \"mask {byte:02X}\" {name} is permitted\n")?;
     }
+    Ok(())
 }
 
-/// Adds under which mask a program may set another.
-fn push_mask(out: &mut String, mask: FileMask, set: FileMask) -> Result<(), AllocError> {
-    match strictest(mask, set, None) {
-        Some(laxer) => {
-            let (byte, set) = (laxer.byte(), set.byte());
-            write!(
-                out,
-                "help: with \"mask {byte:02X}\" the program may set {set:02X}\n"
-            )
-        }
-        None => Ok(()),
+/// Adds under which mask a program may set another, if there is one.
+fn push_mask(out: &mut String, mask: FileMask, set: Option<FileMask>) -> Result<(), AllocError> {
+    let Some(set) = set else {
+        return Ok(());
+    };
+    if let Some(laxer) = strictest(mask, set, None) {
+        let (byte, set) = (laxer.byte(), set.byte());
+        write!(
+            out,
+            "help: with \"mask {byte:02X}\" the program may set {set:02X}\n"
+        )?;
     }
+    Ok(())
 }
 
-/// The strictest mask that permits what either of two masks permits, and a command.
+/// The strictest mask that permits what either of two masks permits, and a command, if there is
+/// one. Of two masks, neither stricter than the other, the later counts.
 fn strictest(one: FileMask, other: FileMask, command: Option<Command>) -> Option<FileMask> {
-    let mut found = None;
-    for byte in 0..=255u8 {
-        if let Some(mask) = FileMask::new(byte) {
-            if one.at_least(mask) && other.at_least(mask) && permits(mask, command) {
-                found = stricter(found, mask);
-            }
+    let mut found: Option<FileMask> = None;
+    for mask in (0..=255u8).filter_map(|byte| FileMask::new(byte)) {
+        let permits = command.is_none_or(|command| !mask.inhibits(command));
+        if permits && one.at_least(mask) && other.at_least(mask) {
+            let stricter = found.filter(|found| !mask.at_least(*found));
+            found = stricter.or(Some(mask));
         }
     }
     found
-}
-
-/// Whether a mask permits a command, if there is one.
-fn permits(mask: FileMask, command: Option<Command>) -> bool {
-    match command {
-        Some(command) => !mask.inhibits(command),
-        None => true,
-    }
-}
-
-/// The stricter of a mask and the strictest one so far, if one is stricter than the other.
-fn stricter(so_far: Option<FileMask>, mask: FileMask) -> Option<FileMask> {
-    match so_far {
-        Some(strictest) if !mask.at_least(strictest) => Some(strictest),
-        _ => Some(mask),
-    }
 }
 
 /// Adds how to judge a program in two parts, if it reads in what it uses.
@@ -152,21 +131,12 @@ fn parting(job: &Job, path: &[Place], second_path: &[Place]) -> Option<(u32, u32
     let changing = path.last()?.address;
     let (user, before) = second_path.split_last()?;
     let first = job.storage.ccw_at(user.address)?;
-    if first.is_transfer() || user.entered != Entry::Fresh || !has_address(before, changing) {
+    let is_read_before = before.iter().any(|place| place.address == changing);
+    if first.is_transfer() || user.entered != Entry::Fresh || !is_read_before {
         return None;
     }
     let last = last_command(job, before)?;
     Some((last.address, user.address))
-}
-
-/// Whether one of these places has an address.
-fn has_address(places: &[Place], address: u32) -> bool {
-    for place in places {
-        if place.address == address {
-            return true;
-        }
-    }
-    false
 }
 
 /// The last of some places that isn't a transfer, unless it is a search's.
@@ -174,11 +144,7 @@ fn last_command(job: &Job, places: &[Place]) -> Option<Place> {
     for place in places.iter().rev() {
         let ccw = job.storage.ccw_at(place.address)?;
         if !ccw.is_transfer() {
-            return if searches(*place, ccw.command()) {
-                None
-            } else {
-                Some(*place)
-            };
+            return (!searches(*place, ccw.command())).then_some(*place);
         }
     }
     None
@@ -187,10 +153,7 @@ fn last_command(job: &Job, places: &[Place]) -> Option<Place> {
 /// Whether a place belongs to a search.
 fn searches(place: Place, code: u8) -> bool {
     match place.entered {
-        Entry::Fresh => match lookup(code) {
-            Some(command) => command.kind() == Kind::Search,
-            None => false,
-        },
+        Entry::Fresh => lookup(code).is_some_and(|command| command.kind() == Kind::Search),
         entered => entered == Entry::ChainSearch,
     }
 }

@@ -26,22 +26,18 @@ pub fn range_text(
     let end = range.start.saturating_add(range.len).min(job.storage.len());
     let mut entered = Entry::Fresh;
     for number in range.start / 8..end.div_ceil(8) {
-        let look = look_at(job, place_at(number.saturating_mul(8), entered));
+        let place = Place {
+            address: number.saturating_mul(8),
+            entered,
+            after_transfer: false,
+        };
+        let look = look_at(job, place);
         push_look(alloc, &mut text, job, &look)?;
         entered = entry_behind(&look);
     }
     push_verdict(&mut text, verdict)?;
     text.push('\n')?;
     Ok(text)
-}
-
-/// The place to which no transfer leads.
-fn place_at(address: u32, entered: Entry) -> Place {
-    Place {
-        address,
-        entered,
-        after_transfer: false,
-    }
 }
 
 /// Adds the row of what stands at a place, with what is set there, and the cause if it is a fault.
@@ -81,10 +77,9 @@ fn fault_behind(job: &Job, look: &Look) -> Option<Evidence> {
 
 /// How the doubleword behind one is entered, if the first one goes on to it.
 fn entry_behind(look: &Look) -> Entry {
-    let chains_data = match look.ccw() {
-        Some(ccw) => ccw.chains_data() && !ccw.is_transfer(),
-        None => false,
-    };
+    let chains_data = look
+        .ccw()
+        .is_some_and(|ccw| ccw.chains_data() && !ccw.is_transfer());
     match (look.place().entered, look.command()) {
         _ if !chains_data => Entry::Fresh,
         (Entry::Fresh, Some(command)) => match command.kind() {

@@ -22,13 +22,10 @@ pub fn shape_of(alloc: Global, survey: Survey) -> Result<(String, usize), AllocE
 {
     let names = first_names(alloc, survey.looks())?;
     let (looks, _offences) = survey.into_parts();
-    let mut ccws = 0u32;
-    for at in 0..looks.len() {
-        let address = looks[at].place().address;
-        if looks[at].ccw().is_some() && (at == 0 || looks[at - 1].place().address != address) {
-            ccws = ccws.saturating_add(1);
-        }
-    }
+    let ccws = looks
+        .chunk_by(|one, other| one.place().address == other.place().address)
+        .filter(|run| run.first().is_some_and(|look| look.ccw().is_some()))
+        .count();
     let noun = if ccws == 1 { "CCW" } else { "CCWs" };
     let text = format!(in alloc; " {ccws} {noun}{names}")?;
     Ok((text, looks.len()))

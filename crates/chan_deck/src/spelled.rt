@@ -4,7 +4,7 @@
 use crate::words::word_row;
 use ccw_core::Ccw;
 use ckd_core::{Command, FileMask, further_name, lookup};
-use hex::{FromHex, encode_upper};
+use hex::FromHex;
 use std::alloc::{AllocError, Global};
 use std::fmt::Write as _;
 
@@ -46,13 +46,11 @@ pub fn spelled_text(alloc: Global, word: &str) -> Result<Option<String>, AllocEr
 
 /// The command code that a word spells: by the name of a further code, or by two digits.
 fn spelled_code(word: &str) -> Option<u8> {
-    for code in 0..=255u8 {
-        match further_name(code) {
-            Some(name) if name.eq_ignore_ascii_case(word) => return Some(code),
-            _ => {}
-        }
-    }
-    spelled_byte(word)
+    let mut codes = 0..=255u8;
+    let named = codes.find(|code| {
+        further_name(*code).is_some_and(|name| name.eq_ignore_ascii_case(word))
+    });
+    named.or(spelled_byte(word))
 }
 
 /// The byte that two hexadecimal digits of either case spell.
@@ -64,10 +62,8 @@ fn spelled_byte(digits: &str) -> Option<u8> {
 /// The line on a command code: its group, the name of the command, what it does, and the masks that
 /// inhibit it.
 fn code_text(alloc: Global, code: u8) -> Result<String, AllocError> {
-    let group = Ccw::from_bytes(&[code, 0, 0, 0, 0, 0, 0, 1]).group();
-    let mut out = encode_upper(alloc, [code])?;
-    let group = group.word();
-    write!(out, ": group {group}, ")?;
+    let group = Ccw::from_bytes(&[code, 0, 0, 0, 0, 0, 0, 1]).group().word();
+    let mut out = format!(in alloc; "{code:02X}: group {group}, ")?;
     match lookup(code) {
         Some(command) => {
             out.push_str(action_of(command.name()))?;
@@ -82,10 +78,7 @@ fn code_text(alloc: Global, code: u8) -> Result<String, AllocError> {
 /// The name of a command, and what the command does.
 fn action_of(name: &str) -> &'static str {
     let row = word_row(name).unwrap_or("");
-    match row.split_once(" (code") {
-        Some((action, _)) => action,
-        None => row,
-    }
+    row.split_once(" (code").map_or(row, |(action, _)| action)
 }
 
 /// Adds what is said of a code that no command of the table has.
@@ -98,8 +91,7 @@ fn push_other(out: &mut String, code: u8) -> Result<(), AllocError> {
         }
         _ => {
             if let Some(name) = further_name(code) {
-                out.push_str(name)?;
-                out.push_str(": ")?;
+                write!(out, "{name}: ")?;
             }
             out.push_str("not in the table of commands that chanv knows")
         }
@@ -143,8 +135,7 @@ fn push_choices(out: &mut String, digits: &[&'static str]) -> Result<(), AllocEr
 
 /// The line on a mask: the commands that it inhibits, in the order of their codes.
 fn mask_text(alloc: Global, byte: u8) -> Result<String, AllocError> {
-    let mut out = String::from_str(alloc, "mask ")?;
-    out.push_str(encode_upper(alloc, [byte])?.as_str())?;
+    let mut out = format!(in alloc; "mask {byte:02X}")?;
     match FileMask::new(byte) {
         Some(mask) => push_inhibited(&mut out, mask)?,
         None => out.push_str(": isn't a file mask; only the bits C0 and 18 may be on")?,
@@ -187,14 +178,12 @@ fn flags_text(alloc: Global, word: &str) -> Result<Option<String>, AllocError> {
         if bytes[at] != letter {
             return Ok(None);
         }
-        out.push_str(mark)?;
-        out.push_str(name)?;
+        write!(out, "{mark}{name}")?;
         mark = "; ";
     }
     if bytes[5] != b'0' {
-        out.push_str(mark)?;
-        out.push(char::from(bytes[5]))?;
-        out.push_str(" low bits, which must be zero")?;
+        let bits = char::from(bytes[5]);
+        write!(out, "{mark}{bits} low bits, which must be zero")?;
     } else if mark == ": " {
         out.push_str(": no flag is on")?;
     }

@@ -351,28 +351,14 @@ pub const WORDS_IN_SHORT: [&'static str; 123] = [
 
 /// The word of a row.
 fn word_in(row: &'static str) -> &'static str {
-    match row.split_once(": ") {
-        Some((word, _)) => word,
-        None => row,
-    }
+    row.split_once(": ").map_or(row, |(word, _)| word)
 }
 
 /// The row of a word, in upper or lower case.
 pub fn word_row(word: &str) -> Option<&'static str> {
-    match row_in(&WORDS_AT_LENGTH, word) {
-        Some(row) => Some(row),
-        None => row_in(&WORDS_IN_SHORT, word),
-    }
-}
-
-/// The row of a word, if these rows have it.
-fn row_in(rows: &[&'static str], word: &str) -> Option<&'static str> {
-    for row in rows {
-        if word_in(row).eq_ignore_ascii_case(word) {
-            return Some(*row);
-        }
-    }
-    None
+    let mut rows = WORDS_AT_LENGTH.iter().chain(&WORDS_IN_SHORT);
+    rows.find(|row| word_in(row).eq_ignore_ascii_case(word))
+        .copied()
 }
 
 /// The word nearest to a text in any case: the first with the fewest edits, if there is at most one
@@ -380,29 +366,13 @@ fn row_in(rows: &[&'static str], word: &str) -> Option<&'static str> {
 pub fn nearest_word(alloc: Global, text: &str) -> Result<Option<&'static str>, AllocError> {
     let mut small = String::from_str(alloc, text)?;
     small.make_ascii_lowercase();
-    let mut fewest = usize::MAX;
-    let long = nearer_word(alloc, &WORDS_AT_LENGTH, small.as_str(), &mut fewest)?;
-    let short = nearer_word(alloc, &WORDS_IN_SHORT, small.as_str(), &mut fewest)?;
-    let nearest = short.or(long).unwrap_or("");
-    let is_near = fewest <= nearest.len() / 3;
-    Ok(if is_near { Some(nearest) } else { None })
-}
-
-/// The first word of these rows with the fewest edits from a text, if they are fewer than `fewest`,
-/// which they then become.
-fn nearer_word(
-    alloc: Global,
-    rows: &[&'static str],
-    text: &str,
-    fewest: &mut usize,
-) -> Result<Option<&'static str>, AllocError> {
-    let mut nearest = None;
-    for row in rows {
+    let (mut nearest, mut fewest) = (None, usize::MAX);
+    for row in WORDS_AT_LENGTH.iter().chain(&WORDS_IN_SHORT) {
         let word = word_in(row);
-        let edits = levenshtein(alloc, text, word)?;
-        if edits < *fewest {
-            (nearest, *fewest) = (Some(word), edits);
+        let edits = levenshtein(alloc, small.as_str(), word)?;
+        if edits < fewest {
+            (nearest, fewest) = (Some(word), edits);
         }
     }
-    Ok(nearest)
+    Ok(nearest.filter(|word| fewest <= word.len() / 3))
 }

@@ -31,38 +31,31 @@ fn outside_note(
     witness: &Witness,
     read: Area,
 ) -> Result<String, AllocError> {
-    for place in &witness.path {
-        if job.storage.ccw_at(place.address).is_some() && !has_range(read, place.address, 8) {
-            return unread_note(alloc, place.address);
-        }
-    }
-    let given = match witness.evidence {
-        Some(Evidence::ShortSeek { given }) => given,
-        Some(
-            Evidence::SeekOutside {
-                argument: Some(given),
-                ..
-            },
-        ) => given,
-        _ => return Ok(String::new(alloc)),
+    let mut path = witness.path.iter().map(|place| place.address);
+    let unread_ccw = path.find(|address| {
+        job.storage.ccw_at(*address).is_some() && !has_range(read, *address, 8)
+    });
+    let argument = match witness.evidence {
+        Some(Evidence::ShortSeek { given }) => Some(given),
+        Some(Evidence::SeekOutside { argument, .. }) => argument,
+        _ => None,
     };
-    for address in given.addresses() {
-        if !has_range(read, *address, 1) {
-            return unread_note(alloc, *address);
-        }
+    let unread_byte = argument.and_then(|given| {
+        let mut addresses = given.addresses().iter().copied();
+        addresses.find(|address| !has_range(read, *address, 1))
+    });
+    match unread_ccw.or(unread_byte) {
+        Some(address) => format!(in alloc;
+            "note: {address:06X} lies outside the image, so it is zero here\n"
+        ),
+        None => Ok(String::new(alloc)),
     }
-    Ok(String::new(alloc))
 }
 
 /// Whether an area has so many bytes from an address on.
 fn has_range(area: Area, start: u32, len: u64) -> bool {
     let end = u64::from(area.start) + u64::from(area.len);
     area.start <= start && u64::from(start).saturating_add(len) <= end
-}
-
-/// The note on a byte that wasn't read.
-fn unread_note(alloc: Global, address: u32) -> Result<String, AllocError> {
-    format!(in alloc; "note: {address:06X} lies outside the image, so it is zero here\n")
 }
 
 /// The note that the address of the start was read in hexadecimal, if no command is there and its
@@ -99,24 +92,19 @@ fn is_faultless_at(job: &Job, address: u32) -> bool {
     fault_at(&there, first_place(&there)).is_none()
 }
 
-/// Whether a verdict may come from wrong ends of the image: data goes past the end of storage, or
-/// the program that begins at this address has no command there.
-fn comes_of_ends(start: u32, verdict: Verdict) -> bool {
-    match verdict {
+/// The note on the size of storage, if another one, or another address of the image, may cure the
+/// verdict on a job: data goes past the end of storage, or there is no command at the start.
+fn ends_note(alloc: Global, job: &Job, verdict: Verdict) -> Result<String, AllocError> {
+    let size = job.storage.len();
+    let may_be_cured = match verdict {
         Verdict::No { address, reason } => match reason {
             Reason::DataOutside => true,
-            Reason::OutsideStorage | Reason::InvalidCode => address == start,
+            Reason::OutsideStorage | Reason::InvalidCode => address == job.start,
             _ => false,
         },
         Verdict::Yes => false,
-    }
-}
-
-/// The note on the size of storage, if another one, or another address of the image, may cure the
-/// verdict on a job.
-fn ends_note(alloc: Global, job: &Job, verdict: Verdict) -> Result<String, AllocError> {
-    let size = job.storage.len();
-    if comes_of_ends(job.start, verdict) && size < STORAGE_LIMIT {
+    };
+    if may_be_cured && size < STORAGE_LIMIT {
         return storage_note(alloc, size);
     }
     Ok(String::new(alloc))
