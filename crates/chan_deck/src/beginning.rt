@@ -138,8 +138,8 @@ fn loop_target(bytes: &[u8]) -> Option<u32> {
 }
 
 /// How many loops agree on `here` as the beginning; and a loop of those that agree on another, more
-/// than on any other, and how many they are. Of several beginnings with as many, each more than one,
-/// the first counts.
+/// than on any other, and how many they are. Of several beginnings with as many, each more than
+/// one, the first counts.
 fn most_voted(sorted: &[SearchLoop], here: u32) -> (usize, Option<(SearchLoop, usize)>) {
     let (mut fit_here, mut likely, mut most) = (0, None, 0);
     for agreed in sorted.chunk_by(|one, other| one.begin == other.begin) {

@@ -240,8 +240,8 @@ impl Reading {
     }
 
     /// Why a line with so many bytes may not have this address, if it may not: it goes on where the
-    /// last one ends, or, with bytes, at or before its start, or after a gap. Between two lines of a
-    /// long dump the gap has as many bytes as a line or a multiple, and otherwise at least two.
+    /// last one ends, or, with bytes, at or before its start, or after a gap. Between two lines of
+    /// a long dump the gap has as many bytes as a line or a multiple, and otherwise at least two.
     fn wrong_step(&self, address: usize, len: usize) -> Option<&'static str> {
         let row = self.row?;
         let may_be_gap = |gap: usize| match self.widest {

@@ -37,10 +37,10 @@ pub(crate) struct Spelled {
     pub(crate) column: usize,
 }
 
-/// The forms of a line: what comes before and after the address, how many columns are then left out,
-/// and how many have bytes. The first that fits counts. The first form is that of Hercules:
-/// `R:00000800:K:06=07000900 ..`. In the last, blanks come after the address, which may be octal, and
-/// words of two bytes may be swapped.
+/// The forms of a line: what comes before and after the address, how many columns are then left
+/// out, and how many have bytes. The first that fits counts. The first form is that of Hercules:
+/// `R:00000800:K:06=07000900 ..`. In the last, blanks come after the address, which may be octal,
+/// and words of two bytes may be swapped.
 const FORMS: [(&'static str, &'static str, usize, usize); 3] = [
     ("R:", ":K:", 3, 36),
     ("", ":", 0, usize::MAX),
