@@ -2,14 +2,14 @@
 
     tests/run cures
 
-Over a FILE, standard error ends with lines `help: ..`. The model computes them for the verdict of
+After a no, standard error ends with lines `help: ..`. The model computes them for the verdict of
 each example deck with a no, of 1,500 random jobs, and of programs at the edges of the rules: a line
 for the deck that lends or grants what is missing, or what to change in the program, and last the
 word to look up. Then the cure is carried out. With the line that help quotes in the deck, the
 offence with this address and this reason is gone. A program that help parts in two is judged again
 without the chain command that help names: the offence is gone. Both parts of two programs have a
 yes. Before help comes a note, exactly if a CCW with a fault leads on, because chanv doesn't look
-past it. Over standard input alone there is no help.
+past it.
 """
 
 import re
@@ -165,16 +165,16 @@ def help_of(answer):
 
 def said_beside(deck, name="", is_among=False):
     """What `why` writes on standard error beside the answer on an example, which is an input with
-    that name, or standard input alone: its notes, and over a named input with a no also help."""
+    that name, or standard input alone: its notes, and after a no help."""
     notes = text_of(deck.with_suffix(".notes")) if "notes" in listed_with(deck) else ""
     answer = Answer(job_of(text_of(deck)))
-    lines = [*notes.splitlines(), *(help_of(answer) if name and answer.found else ())]
+    lines = [*notes.splitlines(), *(help_of(answer) if answer.found else ())]
     front = f"{name}: " if is_among else ""
     return "".join(f"{front}{line}\n" for line in lines)
 
 
 def said_openly(deck):
-    """How to cure the no on a deck's program under its open job, as `why` says it over a FILE."""
+    """How to cure the no on a deck's program under its open job, as `why` says it."""
     answer = Answer(job_of(deck).opened())
     lines = [UNSEEN] * is_unseen(answer) + [*help_of(answer)]
     return "".join(f"{line}\n" for line in lines)
@@ -250,8 +250,7 @@ def check_deck(checks, program, path, job, tried):
 
 
 def check_names(checks, program):
-    """Help comes over a FILE, before each line its name if there are several, and over standard
-    input among them; notes come in any case."""
+    """Among several inputs, the name of its input comes before each line of help."""
     deck = EXAMPLES / "changes-itself.deck"
     helping = "help: store the data elsewhere, so that the CCW at 000818 stays\n"
     helping += "help: if 000818 should use what is read there, end the program at 000810 by "
@@ -262,9 +261,9 @@ def check_names(checks, program):
     why = text_of(deck.with_suffix(".why"))
     verdict = why.partition("\n")[0]
     for words, wanted in [
-        (["why"], Ran(1, why)),
-        (["why", "-"], Ran(1, why)),
-        (["why", "--all"], Ran(1, why)),
+        (["why"], Ran(1, why, helping)),
+        (["why", "-"], Ran(1, why, helping)),
+        (["why", "--all"], Ran(1, why, helping)),
         (["verify", deck], Ran(1, f"{deck}: {verdict}\n")),
         (["why", deck], Ran(1, f"{deck}: {why}", helping)),
         (["why", "--all", deck], Ran(1, f"{deck}: {why}", helping)),

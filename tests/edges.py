@@ -5,12 +5,13 @@ from itertools import product
 from pathlib import Path
 
 from answers import MOST_BYTES
-from cures import UNSEEN
+from cures import UNSEEN, help_of
 from examples import SEARCH_LOOP
-from model import limit_line
+from model import Answer, limit_line
 from rows import Row, check_rows
 from running import Ran
 from wide import two_ways_deck
+from writing import job_of
 
 YES, MANY = Ran(0, "yes\n"), Ran(2, "", "chanv: too many places\n")
 TOO_LONG = Ran(2, "", "chanv: deck too long\n")
@@ -86,6 +87,13 @@ def over(deck, expected, *words, **more):
     return Row(words, expected, deck.encode(), **more)
 
 
+def explained(deck, expected, **more):
+    """The row of `why`: the model's help on a no comes after the notes."""
+    answer = Answer(job_of(deck))
+    helping = "".join(f"{line}\n" for line in (help_of(answer) if answer.found else ()))
+    return over(deck, expected._replace(error=expected.error + helping), "why", **more)
+
+
 def noted(lines, more=""):
     """The notes of a kind, of which a hundred are written."""
     return "".join([f"note: {line}\n" for line in lines[:100]] + [more])
@@ -133,7 +141,7 @@ def rows_of_exchanged():
         (["fetch 000900 00014F"], NOT_STORED, ""),
         (["fetch 000900 000005", "store 000A10 000100"], NOT_WHOLLY_STORED, ""),
     ]:
-        yield over(deck_of(LOOP, areas, 0x1000), Ran(1, output, error), "why", about=f"{areas}")
+        yield explained(deck_of(LOOP, areas, 0x1000), Ran(1, output, error), about=f"{areas}")
     deck, verdict = deck_of(LOOP, exchanged, 0x1000), NOT_FETCHED.splitlines(True)[0]
     needs = "mask 58\nfetch 000900 000005\nstore 000A00 000050\nkeep 000800 000018\n"
     yield over(deck, Ran(1, verdict), "verify")
@@ -142,10 +150,10 @@ def rows_of_exchanged():
     # the note comes if a data chain enters the CCW without a transfer
     chained = [*LOOP[:2], "06000A0080000050", "00000B0000000010"]
     areas = ["fetch 000900 000005", "fetch 000B00 000010", "store 000A00 000050"]
-    yield over(deck_of(chained, areas, 0x1000), Ran(1, CHAINED_NOT_STORED, FETCHING), "why")
+    yield explained(deck_of(chained, areas, 0x1000), Ran(1, CHAINED_NOT_STORED, FETCHING))
     # a write's data chain that a transfer leads to the CCW of a read isn't a matter of the areas
     fetching = re.compile(r"no \w{6} fetch-not-lent\n(.+\n)+")
-    yield over(two_ways_deck(), Ran(1, fetching, f"{UNSEEN}\n"), "why")
+    yield explained(two_ways_deck(), Ran(1, fetching, f"{UNSEEN}\n"))
 
 
 def many_noted(count, more):
@@ -237,7 +245,7 @@ def rows_of_high_addresses():
             Ran(0, "yes\n", noted(HIGH_NOTES)),
         ),
     ]:
-        yield over(deck_of(ccws, areas, 0x200000, start=0x123400), expected, "why")
+        yield explained(deck_of(ccws, areas, 0x200000, start=0x123400), expected)
 
 
 def check(checks, built):

@@ -17,7 +17,7 @@ from random import Random
 
 from building import HERE
 from examples import EXAMPLES, FOLDERS, decks_of
-from model import Answer, answers_of_each
+from model import Answer, answers_of_each, limit_line
 from package import package
 from running import Ran, run, text_of
 
@@ -146,12 +146,16 @@ def lines_of(image, device):
     """What the page says of an image: a line for each program, with the verdict on it."""
     job = job_over(image, device)
     starts = [*programs_of(job)]
-    if not starts:
-        yield NONE_FOUND.strip()
+    is_past_limit = False
     for start in starts:
         answer = Answer(job._replace(start=start))
         told = "too many places" if answer.is_too_large else f"{answer.verdict} {shape_of(answer)}"
         yield f"{start:06X} {told}"
+        is_past_limit |= answer.is_too_large
+    if is_past_limit:
+        yield limit_line(LIMIT)
+    if not starts:
+        yield NONE_FOUND.strip()
 
 
 def shape_of(answer):
@@ -226,14 +230,15 @@ def check_large(checks, program):
     last = bytes.fromhex("0300000000000001")
     transfer = bytes.fromhex("0800000800000000")
     words = LARGEST // 8
-    for name, image, line in [
-        ("no byte", b"", ""),
-        ("zeros", bytes(LARGEST), ""),
-        ("one chain", operation * (words - 1) + last, "000000 too many places\n"),
-        ("transfers", transfer * words, ""),
+    chained = Ran(0, "000000 too many places\n", f"{limit_line(4096)}\n")
+    for name, image, wanted in [
+        ("no byte", b"", Ran(0, "", NONE_FOUND)),
+        ("zeros", bytes(LARGEST), Ran(0, "", NONE_FOUND)),
+        ("one chain", operation * (words - 1) + last, chained),
+        ("transfers", transfer * words, Ran(0, "", NONE_FOUND)),
     ]:
         ran = run(program, "find", "--device", "2314", given=image)
-        checks.expect(f"an image of {name}", Ran(0, line, "" if line else NONE_FOUND), ran)
+        checks.expect(f"an image of {name}", wanted, ran)
     for words, note in [
         (["--at", "0"], NONE_FOUND),
         (["--at", "800"], f"{NONE}; if storage goes on behind the image, give --storage\n"),

@@ -105,8 +105,8 @@ def limit_line(limit):
     if limit == MOST_PLACES:
         return f"the limit is {limit}, and none is higher"
     return (
-        f"the limit is {limit}; the line limit of a deck of version 2, or --limit of chanv deck, "
-        f"may raise it to {MOST_PLACES}"
+        f"the limit is {limit}; the line limit of a deck of version 2, or --limit of chanv find "
+        f"and deck, may raise it to {MOST_PLACES}"
     )
 
 

@@ -101,9 +101,6 @@ def check_ends(checks, program):
     checks.expect("a range of standard input", Ran(1, one), ran)
     fault = usage_fault(f"invalid value '8Z' for '--range <AREA>': {FORM}")
     checks.expect("no range", fault, run(program, "list", "--range", "8Z", MANY))
-    fault = usage_fault("the argument '--wide' cannot be used with '--range <AREA>'")
-    ran = run(program, "list", "--wide", "--range", "800+8", MANY)
-    checks.expect("a range beside --wide", fault, ran)
 
 
 def check(checks, built):

@@ -2,8 +2,7 @@
 
 use crate::action::{Action, Explained};
 use crate::command_table::command;
-use crate::image_command::{ImageRequest, grant_fault, image_request};
-use crate::image_words::GrantFault;
+use crate::image_command::{ImageRequest, image_request};
 use crate::words_met::{is_flagged, text_met, texts_met};
 use clap::error::ErrorKind;
 use clap::{ArgMatches, Error};
@@ -16,31 +15,21 @@ pub enum Request<'a> {
     Show(Vec<&'a str>),
     /// The same, with the name of its command; there may be any number of words.
     ShowNamed(Vec<&'a str>),
-    /// Nothing: no word was given for the CCW that is to be shown.
-    NoCcw,
     /// Nothing: too many words were given for it.
     ManyCcws,
-    /// To read a deck from standard input and do this with it.
-    Run(Action),
     /// To read the deck of each of these in turn and do this with it. Each is the name of a file,
-    /// or `-`, which is standard input; they aren't none, nor `-` alone.
-    RunNamed(Action, Vec<&'a str>),
+    /// or `-`, which is standard input; so is none.
+    Run(Action, Vec<&'a str>),
     /// To make a deck of an image of storage.
     Image(ImageRequest<'a>),
     /// To find the programs in an image of storage.
     Find(ImageRequest<'a>),
-    /// To say why options that make a deck don't say one job.
-    Grants(GrantFault),
     /// To explain the first offence at the address that the text spells, in the deck of each of
-    /// these, or of standard input if there is none.
+    /// these, as `Run` does.
     ExplainOffence(&'a str, Vec<&'a str>),
-    /// Nothing: both each cause and the offence at an address are asked for.
-    AllWithOf,
-    /// To list the range of storage that the text spells, of the deck of each of these, or of
-    /// standard input if there is none.
+    /// To list the range of storage that the text spells, of the deck of each of these, as `Run`
+    /// does.
     ListRange(&'a str, Vec<&'a str>),
-    /// Nothing: both a wide listing and that of a range are asked for.
-    WideWithRange,
     /// To say what a word means, which may have blanks between its parts.
     Explain(Vec<&'a str>),
     /// To say what the flags of a listing mean, which begin like an option.
@@ -70,7 +59,7 @@ fn asked<'a>(alloc: Global, words: &'a [String]) -> Result<Request<'a>, Error> {
 fn request_of<'a>(alloc: Global, matches: &ArgMatches<'a>) -> Result<Request<'a>, AllocError> {
     match matches.subcommand() {
         Some((name, inner)) => request_named(alloc, name, inner),
-        None => Ok(Request::Run(Action::Verify)),
+        None => Ok(Request::Run(Action::Verify, Vec::new(alloc))),
     }
 }
 
@@ -86,8 +75,8 @@ fn request_named<'a>(
         "why" => why_request(alloc, matches),
         "graph" => request_over(alloc, Action::Graph, matches),
         "needs" => needs_request(alloc, matches),
-        "find" => search_request(alloc, matches),
-        "deck" => deck_request(alloc, matches),
+        "find" => Ok(Request::Find(image_request(alloc, matches)?)),
+        "deck" => Ok(Request::Image(image_request(alloc, matches)?)),
         "explain" => explain_request(alloc, matches),
         _ => request_over(alloc, Action::Verify, matches),
     }
@@ -96,9 +85,6 @@ fn request_named<'a>(
 /// The request to show the words that clap met as the CCW.
 fn show_request<'a>(alloc: Global, matches: &ArgMatches<'a>) -> Result<Request<'a>, AllocError> {
     let words = texts_met(alloc, matches, "CCW")?;
-    if words.is_empty() {
-        return Ok(Request::NoCcw);
-    }
     if is_flagged(matches, "name") {
         return Ok(Request::ShowNamed(words));
     }
@@ -130,11 +116,7 @@ fn explain_request<'a>(alloc: Global, matches: &ArgMatches<'a>) -> Result<Reques
 fn list_request<'a>(alloc: Global, matches: &ArgMatches<'a>) -> Result<Request<'a>, AllocError> {
     let wide = is_flagged(matches, "wide");
     match text_met(matches, "range") {
-        Some(_) if wide => Ok(Request::WideWithRange),
-        Some(range) => {
-            let files = texts_met(alloc, matches, "FILE")?;
-            Ok(Request::ListRange(range, files))
-        }
+        Some(range) => Ok(Request::ListRange(range, texts_met(alloc, matches, "FILE")?)),
         None => request_over(alloc, Action::List { wide }, matches),
     }
 }
@@ -147,29 +129,13 @@ fn needs_request<'a>(alloc: Global, matches: &ArgMatches<'a>) -> Result<Request<
 
 /// The request to explain the verdicts on the decks that clap met, or the offences at an address.
 fn why_request<'a>(alloc: Global, matches: &ArgMatches<'a>) -> Result<Request<'a>, AllocError> {
-    let all = is_flagged(matches, "all");
     match text_met(matches, "of") {
-        Some(_) if all => Ok(Request::AllWithOf),
-        Some(address) => {
-            let files = texts_met(alloc, matches, "FILE")?;
-            Ok(Request::ExplainOffence(address, files))
+        Some(address) => Ok(Request::ExplainOffence(address, texts_met(alloc, matches, "FILE")?)),
+        None if is_flagged(matches, "all") => {
+            request_over(alloc, Action::Why(Explained::All), matches)
         }
-        None if all => request_over(alloc, Action::Why(Explained::All), matches),
         None => request_over(alloc, Action::Why(Explained::First), matches),
     }
-}
-
-/// The request to make a deck of what clap met.
-fn deck_request<'a>(alloc: Global, matches: &ArgMatches<'a>) -> Result<Request<'a>, AllocError> {
-    match grant_fault(matches) {
-        Some(fault) => Ok(Request::Grants(fault)),
-        None => Ok(Request::Image(image_request(alloc, matches)?)),
-    }
-}
-
-/// The request to find the programs in what clap met.
-fn search_request<'a>(alloc: Global, matches: &ArgMatches<'a>) -> Result<Request<'a>, AllocError> {
-    Ok(Request::Find(image_request(alloc, matches)?))
 }
 
 /// The request to do this with the decks that clap met.
@@ -178,20 +144,7 @@ fn request_over<'a>(
     action: Action,
     matches: &ArgMatches<'a>,
 ) -> Result<Request<'a>, AllocError> {
-    let files = texts_met(alloc, matches, "FILE")?;
-    if is_standard_input(files.as_slice()) {
-        return Ok(Request::Run(action));
-    }
-    Ok(Request::RunNamed(action, files))
-}
-
-/// Whether these files are standard input: there is none, or `-` alone.
-fn is_standard_input(files: &[&str]) -> bool {
-    match files {
-        [] => true,
-        [file] => *file == "-",
-        _ => false,
-    }
+    Ok(Request::Run(action, texts_met(alloc, matches, "FILE")?))
 }
 
 /// The words as clap reads them: a call for the help of `help` is one for help.

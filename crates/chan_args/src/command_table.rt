@@ -10,14 +10,18 @@ pub(crate) enum Given {
     Plain,
     /// By itself, any number of times.
     Repeated,
+    /// By itself, any number of times but at least once.
+    RequiredRepeated,
     /// As an option with a value, or not at all.
     Valued,
     /// As an option with a value.
     RequiredValued,
     /// As an option with a value, any number of times.
     RepeatedValued,
-    /// As an option without a value.
-    Flag,
+    /// The same, and at least once without any of these.
+    RequiredWithout(&'static [&'static str]),
+    /// As an option without a value, beside none of these.
+    Flag(&'static [&'static str]),
 }
 
 /// A word of a command, or an option: its name, how it is given, what help calls its value, and
@@ -92,10 +96,9 @@ The exit status is the same as for `chanv verify`; see its help.";
 
 /// The end of the help of `why`.
 const OF_WHY: &str = "After a no, the output has the path to the offending CCW, as a listing has it,
-the cause, and a line `also` for each other offence. Over a FILE, standard error
-says how to cure it. chanv doesn't look past a CCW that has a fault: ask again
-after a repair. After a yes, notes on standard error say what the answer leaves
-open.
+the cause, and a line `also` for each other offence. Standard error says how to
+cure it. chanv doesn't look past a CCW that has a fault: ask again after a
+repair. After a yes, notes on standard error say what the answer leaves open.
 
 The exit status is the same as for `chanv verify`; see its help.";
 
@@ -175,7 +178,12 @@ const DECKS: Word = (
     "a deck; standard input if FILE is - or left out",
 );
 
-const ALL: Word = ("all", Given::Flag, "", "adds the cause to each line `also`");
+const ALL: Word = (
+    "all",
+    Given::Flag(&["of"]),
+    "",
+    "adds the cause to each line `also`",
+);
 
 const OF: Word = (
     "of",
@@ -186,7 +194,7 @@ const OF: Word = (
 
 const WIDE: Word = (
     "wide",
-    Given::Flag,
+    Given::Flag(&["range"]),
     "",
     "says what each CCW does, for people and not for scripts",
 );
@@ -200,7 +208,7 @@ const RANGE: Word = (
 
 const AS_DECK: Word = (
     "deck",
-    Given::Flag,
+    Given::Flag(&[]),
     "",
     "writes the deck that grants exactly this",
 );
@@ -263,7 +271,7 @@ const MAKING: &[Word] = &[
     ),
     (
         "extent",
-        Given::RepeatedValued,
+        Given::RequiredWithout(&["least", "open"]),
         "FIRST-LAST",
         "decimal cylinders; needed unless --least or --open",
     ),
@@ -281,11 +289,16 @@ const MAKING: &[Word] = &[
     ),
     (
         "least",
-        Given::Flag,
+        Given::Flag(&["open", "mask", "extent", "fetch", "store"]),
         "",
         "grants exactly what the program needs",
     ),
-    ("open", Given::Flag, "", "grants everything"),
+    (
+        "open",
+        Given::Flag(&["mask", "extent", "fetch", "store"]),
+        "",
+        "grants everything",
+    ),
     AT,
     STORAGE,
     IMAGE,
@@ -305,15 +318,15 @@ const SEARCHING: &[Word] = &[
     IMAGES,
 ];
 
-/// The CCW that is shown, and how. Without it `chan_run` reports that it is required.
+/// The CCW that is shown, and how.
 const SHOWING: &[Word] = &[
     (
         "CCW",
-        Given::Repeated,
+        Given::RequiredRepeated,
         "",
         "sixteen hexadecimal digits, or twice eight",
     ),
-    ("name", Given::Flag, "", "adds the name of the command"),
+    ("name", Given::Flag(&[]), "", "adds the name of the command"),
 ];
 
 /// The commands, in the order of help.
@@ -454,19 +467,27 @@ fn with_word<'a>(
     command: Result<Command<'a>, AllocError>,
     word: &Word,
 ) -> Result<Command<'a>, AllocError> {
-    command?.arg(arg_of(alloc, word))
+    command?.arg(arg_of(alloc, word)?)
 }
 
 /// The argument of a word.
-fn arg_of<'a>(alloc: Global, word: &Word) -> Arg<'a> {
+fn arg_of<'a>(alloc: Global, word: &Word) -> Result<Arg<'a>, AllocError> {
     let (name, given, value, help) = *word;
     let arg = Arg::new(alloc, name).help(help);
     match given {
-        Given::Plain => arg,
-        Given::Repeated => arg.action(ArgAction::Append),
-        Given::Valued => arg.long(name).value_name(value),
-        Given::RequiredValued => arg.required(true).long(name).value_name(value),
-        Given::RepeatedValued => arg.long(name).value_name(value).action(ArgAction::Append),
-        Given::Flag => arg.long(name).action(ArgAction::SetTrue),
+        Given::Plain => Ok(arg),
+        Given::Repeated => Ok(arg.action(ArgAction::Append)),
+        Given::RequiredRepeated => Ok(arg.required(true).action(ArgAction::Append)),
+        Given::Valued => Ok(arg.long(name).value_name(value)),
+        Given::RequiredValued => Ok(arg.required(true).long(name).value_name(value)),
+        Given::RepeatedValued => Ok(arg.long(name).value_name(value).action(ArgAction::Append)),
+        Given::RequiredWithout(others) => {
+            let option = arg.long(name).value_name(value).action(ArgAction::Append);
+            option.required_unless_present_any(others)
+        }
+        Given::Flag(others) => {
+            let flag = arg.long(name).action(ArgAction::SetTrue);
+            flag.conflicts_with_all(others)
+        }
     }
 }

@@ -1,6 +1,6 @@
 //! The commands over an image of storage, `find` and `deck`: what their words ask for.
 
-use crate::image_words::{GrantFault, ImageOption, ImageWords, RequestedJob};
+use crate::image_words::{ImageWords, RequestedJob};
 use crate::words_met::{is_flagged, text_met, text_or, texts_met};
 use clap::ArgMatches;
 use std::alloc::{AllocError, Global};
@@ -29,53 +29,6 @@ fn requested_job(matches: &ArgMatches<'_>) -> RequestedJob {
         RequestedJob::Open
     } else {
         RequestedJob::Named
-    }
-}
-
-/// The first option that grants something of its own.
-fn granting_option(matches: &ArgMatches<'_>) -> Option<ImageOption> {
-    if text_met(matches, "mask").is_some() {
-        Some(ImageOption::Mask)
-    } else if text_met(matches, "extent").is_some() {
-        Some(ImageOption::Extent)
-    } else if text_met(matches, "fetch").is_some() {
-        Some(ImageOption::Fetch)
-    } else if text_met(matches, "store").is_some() {
-        Some(ImageOption::Store)
-    } else {
-        None
-    }
-}
-
-/// The first option that grants something beside the least job.
-fn option_with_least(matches: &ArgMatches<'_>) -> Option<GrantFault> {
-    if is_flagged(matches, "open") {
-        return Some(GrantFault::WithLeast(ImageOption::Open));
-    }
-    match granting_option(matches) {
-        Some(option) => Some(GrantFault::WithLeast(option)),
-        None => None,
-    }
-}
-
-/// The first option that grants something beside the open job.
-fn option_with_open(matches: &ArgMatches<'_>) -> Option<GrantFault> {
-    match granting_option(matches) {
-        Some(option) => Some(GrantFault::WithOpen(option)),
-        None => None,
-    }
-}
-
-/// Why the options that clap met don't say one job, if they don't.
-pub(crate) fn grant_fault(matches: &ArgMatches<'_>) -> Option<GrantFault> {
-    if is_flagged(matches, "least") {
-        option_with_least(matches)
-    } else if is_flagged(matches, "open") {
-        option_with_open(matches)
-    } else if text_met(matches, "extent").is_some() {
-        None
-    } else {
-        Some(GrantFault::NoExtent)
     }
 }
 

@@ -21,8 +21,6 @@ pub enum ImageOption {
     At,
     /// `--storage`: how many bytes storage has.
     Storage,
-    /// `--open`: grants everything.
-    Open,
     /// `--of`, over a deck: the address of the offence that is explained.
     Of,
     /// `--range`, over a deck: the range of storage that is listed.
@@ -66,15 +64,4 @@ pub struct ImageWords<'a> {
     pub storage: Option<&'a str>,
     /// The job of the deck. If it isn't the named one, mask, extents and areas don't matter.
     pub job: RequestedJob,
-}
-
-/// Why options don't say one job.
-#[derive(Clone, Copy)]
-pub enum GrantFault {
-    /// This option stands beside `--least`, which grants in its place.
-    WithLeast(ImageOption),
-    /// This option stands beside `--open`, which grants in its place.
-    WithOpen(ImageOption),
-    /// There is neither an extent nor `--least` nor `--open`.
-    NoExtent,
 }

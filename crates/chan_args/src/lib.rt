@@ -5,7 +5,7 @@
 //! ```
 //! fn files<'a>(alloc: Global, words: &'a [String]) -> Option<Vec<&'a str>> {
 //!     match read_request(alloc, words) {
-//!         Request::RunNamed(_, files) => Some(files),
+//!         Request::Run(_, files) => Some(files),
 //!         _ => None,
 //!     }
 //! }
@@ -22,4 +22,4 @@ mod words_met;
 pub use crate::action::{Action, Explained};
 pub use crate::command_line::{Request, read_request};
 pub use crate::image_command::ImageRequest;
-pub use crate::image_words::{GrantFault, ImageOption, ImageWords, RequestedJob};
+pub use crate::image_words::{ImageOption, ImageWords, RequestedJob};

@@ -221,7 +221,8 @@ pub fn limit_note(alloc: Global, limit: Limit) -> Result<String, AllocError> {
     let how = if places == 65_536 {
         ", and none is higher"
     } else {
-        "; the line limit of a deck of version 2, or --limit of chanv deck, may raise it to 65536"
+        "; the line limit of a deck of version 2, or --limit of chanv find and deck, \
+            may raise it to 65536"
     };
     format!(in alloc; "the limit is {places}{how}\n")
 }

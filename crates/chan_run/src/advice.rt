@@ -132,19 +132,8 @@ fn push_front(text: &mut Vec<u8>, naming: Naming<'_>, begins: bool) -> Result<()
     Ok(())
 }
 
-/// The notes on a job that was surveyed.
-fn notes_on(alloc: Global, job: &Job, survey: &Survey) -> Result<Vec<u8>, AllocError>
-    requires { IsSurvey job.now survey.now }
-{
-    let notes = notes_from(alloc, job, survey)?;
-    let hang = hang_from(alloc, survey)?;
-    let mut text = notes_text(alloc, job.storage, &notes, hang)?;
-    text.push_str(behind_note(alloc, job, survey.looks())?.as_str())?;
-    Ok(text.into_bytes())
-}
-
 /// What is said of a verdict that is explained by a witness: that no offence is at the address that
-/// is asked about, if that is so, and the advice on the job.
+/// is asked about, if that is so, the notes on the job, and how to cure a no.
 pub(crate) fn why_advice(
     alloc: Global,
     naming: Naming<'_>,
@@ -155,37 +144,33 @@ pub(crate) fn why_advice(
 ) -> Option<Vec<u8>>
     requires { IsSurvey job.now survey.now }
 {
-    let named = naming.name.is_some();
     let mut text = absent_advice(alloc, explained, survey).ok()?;
-    let said = job_advice(alloc, named, explained, job, survey, witness).ok()?;
-    text.extend_from_slice(said.as_slice()).ok()?;
-    fronted(alloc, naming, text.as_slice()).ok()
+    text.push_str(job_notes(alloc, job, survey).ok()?.as_str())
+        .ok()?;
+    let help = help_on(alloc, explained, job, survey, witness).ok()?;
+    text.push_str(help.as_str()).ok()?;
+    fronted(alloc, naming, text.as_bytes()).ok()
 }
 
-/// The notes on a yes; on a no, the note that the areas seem exchanged, if they do, and how to cure
-/// it.
-pub(crate) fn job_advice(
-    alloc: Global,
-    named: bool,
-    explained: Explained,
-    job: &Job,
-    survey: &Survey,
-    witness: &Witness,
-) -> Result<Vec<u8>, AllocError>
+/// The notes on a job that was surveyed: what a yes leaves open; of a no, that the areas seem
+/// exchanged, if they do, and that some CCWs weren't looked at.
+pub(crate) fn job_notes(alloc: Global, job: &Job, survey: &Survey) -> Result<String, AllocError>
     requires { IsSurvey job.now survey.now }
 {
+    let mut text = String::new(alloc);
     match survey.verdict() {
-        Verdict::Yes => notes_on(alloc, job, survey),
+        Verdict::Yes => {
+            let notes = notes_from(alloc, job, survey)?;
+            let hang = hang_from(alloc, survey)?;
+            text.push_str(notes_text(alloc, job.storage, &notes, hang)?.as_str())?;
+            text.push_str(behind_note(alloc, job, survey.looks())?.as_str())?;
+        }
         Verdict::No { address, reason } => {
-            let mut said = exchange_on(alloc, job, survey.offences(), address, reason)?;
-            said.extend_from_slice(unseen_note(survey).as_bytes())?;
-            if named {
-                let help = help_on(alloc, explained, job, survey, witness)?;
-                said.extend_from_slice(help.as_bytes())?;
-            }
-            Ok(said)
+            text.push_str(exchange_on(alloc, job, survey.offences(), address, reason)?)?;
+            text.push_str(unseen_note(survey))?;
         }
     }
+    Ok(text)
 }
 
 /// The note that no offence is at the address that is asked about, if that is so.
@@ -193,12 +178,12 @@ fn absent_advice(
     alloc: Global,
     explained: Explained,
     survey: &Survey,
-) -> Result<Vec<u8>, AllocError> {
+) -> Result<String, AllocError> {
     match explained {
         Explained::At(address) if offence_at(survey, address).is_none() => {
-            Ok(absent_note(alloc, address)?.into_bytes())
+            absent_note(alloc, address)
         }
-        _ => Ok(Vec::new(alloc)),
+        _ => Ok(String::new(alloc)),
     }
 }
 
@@ -224,31 +209,12 @@ fn exchange_on(
     offences: &[Offence],
     address: u32,
     reason: Reason,
-) -> Result<Vec<u8>, AllocError> {
-    if is_chained_over(offences) {
-        return Ok(Vec::new(alloc));
+) -> Result<&'static str, AllocError> {
+    let place = offences.first().map(|first| first.place);
+    let is_chained_over = place.is_some_and(|place| place.entered != Entry::Fresh
+        && place.after_transfer);
+    if !is_chained_over && seems_exchanged(alloc, job, Verdict::No { address, reason })? {
+        return Ok(exchange_note(reason));
     }
-    exchange_text(alloc, job, address, reason)
-}
-
-/// That note on a no.
-fn exchange_text(
-    alloc: Global,
-    job: &Job,
-    address: u32,
-    reason: Reason,
-) -> Result<Vec<u8>, AllocError> {
-    let mut text = Vec::new(alloc);
-    if seems_exchanged(alloc, job, Verdict::No { address, reason })? {
-        text.extend_from_slice(exchange_note(reason).as_bytes())?;
-    }
-    Ok(text)
-}
-
-/// Whether the first of some offences is at a place that a data chain enters by a transfer.
-fn is_chained_over(offences: &[Offence]) -> bool {
-    match offences {
-        [first, ..] => first.place.entered != Entry::Fresh && first.place.after_transfer,
-        [] => false,
-    }
+    Ok("")
 }

@@ -9,12 +9,12 @@ ghost use Rattle.chan_run.specs.Name.{name_in};
 ghost use Rattle.chan_run.specs.Output.{IsNeeded};
 ghost use Rattle.chan_run.specs.Response.{IsActionAnswer, advice_in};
 
-use crate::advice::{job_advice, needs_advice, why_advice};
+use crate::advice::{job_notes, needs_advice, why_advice};
 use crate::explained::{explained_witness, first_explanation, why_text};
 use crate::least_job::least_deck_text;
-use crate::name::{Naming, heading_of};
+use crate::name::Naming;
 use crate::output::{
-    Remarks, list_output, picture_output, range_output, text_after, verdict_output,
+    Remarks, list_output, picture_output, range_output, text_after, text_under, verdict_output,
 };
 use ccw_core::Area;
 use chan_args::{Action, Explained};
@@ -102,11 +102,9 @@ fn needs_answer(
     ensures { IfOk result (IsActionAnswer naming.entry (actions.Needs deck) job.now
         (first_verdict survey.now.offences)) }
 {
-    let mut output = heading_of(alloc, naming)?;
     let needed = needed_text(alloc, deck, job, survey)?;
-    output.extend_from_slice(needed.as_slice())?;
     Ok(Answer {
-        output,
+        output: text_under(alloc, naming, needed.as_slice())?,
         advice: needs_advice(alloc, naming, deck, job, survey),
     })
 }
@@ -156,6 +154,6 @@ fn remarks_on(alloc: Global, job: &Job, survey: &Survey) -> Result<Remarks, Allo
     Ok(Remarks {
         evidence: evidence_from(alloc, survey)?,
         stored_over: witness.stored_over,
-        notes: job_advice(alloc, false, Explained::First, job, survey, &witness)?,
+        notes: job_notes(alloc, job, survey)?,
     })
 }

@@ -22,10 +22,11 @@ use crate::outcome::Outcome;
 use crate::response::Response;
 use ccw_core::{Storage, Watched, write_out};
 use chan_deck::{
-    deck_note, find_note, image_notes, place_image, program_text, shape_of, unjudged_text,
+    deck_note, find_note, image_notes, limit_note, place_image, program_text, shape_of,
+    unjudged_text,
 };
 use chan_find::program_starts;
-use chan_walk::{OpenJob, WalkError, survey};
+use chan_walk::{Limit, OpenJob, WalkError, survey};
 use std::alloc::{AllocError, Global};
 use std::io::{Read, Write};
 
@@ -40,8 +41,8 @@ use std::io::{Read, Write};
 /// the lines of some first programs. The errors of the input are those of `make_deck`.
 ///
 /// The second writer gets the outcome's line, as `report` writes it, the notes on an image that is
-/// text or seems to begin elsewhere, and then a note if the image is a deck, or if all went well
-/// and it has no program.
+/// text or seems to begin elsewhere, the limit if a program has too many places, and then a note if
+/// the image is a deck, or if all went well and it has no program.
 pub fn find_programs<R: Read, W: Write, E: Write>(
     alloc: Global,
     name: Option<&str>,
@@ -82,11 +83,16 @@ fn search_image<R: Read, W: Write>(
 {
     match read_image(alloc, options, from) {
         Ok(image) => {
-            let (outcome, note) = write_programs(alloc, options, image.bytes.as_slice(), to);
+            let (outcome, note, is_past_limit) = write_programs(
+                alloc,
+                options,
+                image.bytes.as_slice(),
+                to,
+            );
             Response {
                 outcome,
                 output: Vec::new(alloc),
-                advice: notes_on_image(alloc, outcome, options.at, bytes_read(&image)),
+                advice: notes_on_image(alloc, options, outcome, is_past_limit, &image),
                 note,
             }
         }
@@ -99,31 +105,41 @@ fn search_image<R: Read, W: Write>(
     }
 }
 
-/// The bytes of an image that were read.
-fn bytes_read(image: &WholeImage) -> &[u8] {
-    image.bytes.as_slice().get(..image.given).unwrap_or(&[])
-}
-
-/// The notes on an image that was searched, unless memory ran out for the search.
-fn notes_on_image(alloc: Global, outcome: Outcome, at: u32, image: &[u8]) -> Option<Vec<u8>> {
-    match outcome {
-        Outcome::Failed(Failure::OutOfMemory) => Some(Vec::new(alloc)),
-        _ => image_notes(alloc, at, image).ok(),
+/// The notes on an image that was searched, unless memory ran out for that, and what the limit is if
+/// a program is past it.
+fn notes_on_image(
+    alloc: Global,
+    options: &ImageOptions,
+    outcome: Outcome,
+    is_past_limit: bool,
+    image: &WholeImage,
+) -> Option<Vec<u8>> {
+    let mut notes = Vec::new(alloc);
+    if !matches!(outcome, Outcome::Failed(Failure::OutOfMemory)) {
+        let read = image.bytes.as_slice().get(..image.given).unwrap_or(&[]);
+        notes = image_notes(alloc, options.at, read).ok()?;
     }
+    if is_past_limit {
+        let limit = options.limit.unwrap_or(Limit::usual());
+        notes
+            .extend_from_slice(limit_note(alloc, limit).ok()?.as_bytes())
+            .ok()?;
+    }
+    Some(notes)
 }
 
 /// How many places `find` judges in one image: as many as the largest storage has, one for each
 /// doubleword and way to enter it. So programs that share no place are all judged.
 const PLACES_JUDGED: usize = 16_777_216;
 
-/// Writes a line for each program in an image, as each verdict is known, and says what came of it.
-/// Beside that stands the note on the image, or an empty text.
+/// Writes a line for each program in an image, as each verdict is known, and says what came of it,
+/// with the note on the image, or an empty text, and whether a program has too many places.
 fn write_programs<W: Write>(
     alloc: Global,
     options: &ImageOptions,
     image: &[u8],
     to: &mut Watched<W>,
-) -> (Outcome, &'static str)
+) -> (Outcome, &'static str, bool)
     requires short { options.now.at + length image.now ≤ STORAGE_LIMIT }
     requires writer { to.old.failed ≡ false }
     ensures answer { IsSearchOutput options.now image.now
@@ -132,7 +148,11 @@ fn write_programs<W: Write>(
     ensures read { result.0 ≡ Failed failures.ReadFailed → ⊥ }
     ensures write { IsWriteFailure result.0 ↔ (to.new.failed ≡ true) }
 {
-    let no_memory = (Outcome::Failed(Failure::OutOfMemory), deck_note(image));
+    let no_memory = (
+        Outcome::Failed(Failure::OutOfMemory),
+        deck_note(image),
+        false,
+    );
     let Ok(bytes) = place_image(alloc, options.at as usize, image) else {
         return no_memory;
     };
@@ -141,13 +161,25 @@ fn write_programs<W: Write>(
     let Ok(starts) = program_starts(alloc, &storage, options.device) else {
         return no_memory;
     };
-    let mut left = PLACES_JUDGED;
+    let (mut left, mut is_past_limit) = (PLACES_JUDGED, false);
     for start in starts.as_slice() {
-        let Ok(line) = program_line(alloc, options, storage, *start, &mut left) else {
+        let line = program_line(
+            alloc,
+            options,
+            storage,
+            *start,
+            &mut left,
+            &mut is_past_limit,
+        );
+        let Ok(line) = line else {
             return no_memory;
         };
         if write_out(line.as_bytes(), to).is_err() {
-            return (Outcome::Failed(Failure::WriteFailed), deck_note(image));
+            return (
+                Outcome::Failed(Failure::WriteFailed),
+                deck_note(image),
+                false,
+            );
         }
     }
     let note = find_note(
@@ -156,17 +188,19 @@ fn write_programs<W: Write>(
         options.at != 0,
         options.size.is_some(),
     );
-    (Outcome::Done, note)
+    (Outcome::Done, note, is_past_limit)
 }
 
 /// The line of the program that begins at an address in storage. `left` is how many places may
-/// still be judged: a program that begins before none is left is judged whole.
+/// still be judged: a program that begins before none is left is judged whole. `is_past_limit`
+/// becomes true if the program has too many places.
 fn program_line(
     alloc: Global,
     options: &ImageOptions,
     storage: Storage<'_>,
     start: u32,
     left: &mut usize,
+    is_past_limit: &mut bool,
 ) -> Result<String, AllocError>
     ensures { (image : List ℕ) → bytes_held storage.entry ≡ storage_with options.now.at image
         → IfOk result (λ line. IsLineAt options.now image start left.old (string_bytes line)
@@ -175,18 +209,19 @@ fn program_line(
     if *left == 0 {
         return unjudged_text(alloc, start);
     }
-    let (line, places) = judged_line(alloc, options, storage, start)?;
+    let (line, places) = judged_line(alloc, options, storage, start, is_past_limit)?;
     *left = left.saturating_sub(places);
     Ok(line)
 }
 
 /// The line of the program that begins at an address in storage, with its verdict, and how many
-/// places that took.
+/// places that took. `is_past_limit` becomes true if there are too many.
 fn judged_line(
     alloc: Global,
     options: &ImageOptions,
     storage: Storage<'_>,
     start: u32,
+    is_past_limit: &mut bool,
 ) -> Result<(String, usize), AllocError>
     ensures { (image : List ℕ) → bytes_held storage.entry ≡ storage_with options.now.at image
         → IfOk result (λ judged. IsJudgedAt options.now image start (string_bytes judged.0)
@@ -203,6 +238,7 @@ fn judged_line(
             Ok((line, places))
         }
         Err(WalkError::TooManyPlaces) => {
+            *is_past_limit = true;
             let line = program_text(alloc, job.start, None, "")?;
             Ok((line, open_job.limit.get() as usize))
         }

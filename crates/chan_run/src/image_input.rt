@@ -11,7 +11,7 @@ use crate::outcome::{Outcome, report};
 use crate::texts::{write_bytes, write_texts};
 use ccw_core::{STORAGE_LIMIT, Watched};
 use chan_deck::{DumpError, is_text, read_dump};
-use std::alloc::{AllocError, Global};
+use std::alloc::Global;
 use std::io;
 use std::io::{Read, Write};
 
@@ -27,29 +27,12 @@ pub struct ImageInput<R> {
     /// The first bytes of the image, and how many of them were read from here.
     front: Vec<u8>,
     given: usize,
-    /// What a read of the input gave in place of them.
-    error: Option<io::Error>,
     /// What has the bytes after them, if more may come.
     rest: Option<R>,
 }
 
-impl<R> ImageInput<R> {
-    /// An image that begins so, and goes on with an input, if that wasn't read to its end.
-    fn of(front: Vec<u8>, error: Option<io::Error>, rest: Option<R>) -> ImageInput<R> {
-        ImageInput {
-            front,
-            given: 0,
-            error,
-            rest,
-        }
-    }
-}
-
 impl<R: Read> Read for ImageInput<R> {
     fn read(&mut self, buf: &mut [u8]) -> io::Result<usize> {
-        if let Some(error) = self.error.take() {
-            return Err(error);
-        }
         let front = self.front.as_slice().get(self.given..).unwrap_or(&[]);
         if front.is_empty() {
             return match &mut self.rest {
@@ -91,10 +74,7 @@ pub fn take_image<R: Read + Drop, W: Write>(
         Ok(None) => Ok((options, image)),
         Ok(Some(dump)) => {
             let _ = write_bytes(dump.notes.as_bytes(), errors);
-            Ok((
-                options_at(options, is_placed, dump.at),
-                ImageInput::of(dump.image, None, None),
-            ))
+            Ok((options_at(options, is_placed, dump.at), whole(dump.image)))
         }
         Err(DumpError::Refused(text)) => {
             let (name, mark) = named(name, true);
@@ -116,6 +96,15 @@ fn options_at(options: ImageOptions, is_placed: bool, at: u32) -> ImageOptions {
     options
 }
 
+/// An image that has these bytes and no more.
+fn whole<R>(bytes: Vec<u8>) -> ImageInput<R> {
+    ImageInput {
+        front: bytes,
+        given: 0,
+        rest: None,
+    }
+}
+
 /// Reads the first bytes of an input, and if they are text, all of it.
 fn look_at<R: Read + Drop>(
     alloc: Global,
@@ -123,52 +112,32 @@ fn look_at<R: Read + Drop>(
     input: R,
 ) -> Result<ImageInput<R>, Failure> {
     let mut input = input;
-    let (front, error) = match first_bytes(alloc, &mut input) {
-        Ok(read) => read,
-        Err(AllocError) => return Err(Failure::OutOfMemory),
-    };
-    if error.is_some() || !is_text(front.as_slice()) {
-        return Ok(ImageInput::of(front, error, Some(input)));
-    }
+    let front = first_bytes(alloc, &mut input)?;
     if front.is_empty() {
-        return Ok(ImageInput::of(front, None, None));
+        return Ok(whole(front));
     }
-    match whole_text(alloc, front, input)? {
-        Some(text) => Ok(ImageInput::of(text, None, None)),
+    let is_text = is_text(front.as_slice());
+    let image = ImageInput {
+        front,
+        given: 0,
+        rest: Some(input),
+    };
+    if !is_text {
+        return Ok(image);
+    }
+    match read_input(alloc, TEXT_LIMIT, &mut Watched::new(image))? {
+        Some(text) => Ok(whole(text)),
         None => Err(too_long(options)),
     }
 }
 
-/// The bytes of a first read of an input, or the error that it gave.
-fn first_bytes<R: Read>(
-    alloc: Global,
-    input: &mut R,
-) -> Result<(Vec<u8>, Option<io::Error>), AllocError> {
+/// The bytes of a first read of an input.
+fn first_bytes<R: Read>(alloc: Global, input: &mut R) -> Result<Vec<u8>, Failure> {
     let mut block = Vec::new(alloc);
-    block.resize(BLOCK, 0)?;
-    match input.read(block.as_mut_slice()) {
-        Ok(count) => {
-            block.truncate(count);
-            Ok((block, None))
-        }
-        Err(error) => Ok((Vec::new(alloc), Some(error))),
-    }
-}
-
-/// A text that begins so, to the end of its input; `None` if it is longer than any dump may be.
-fn whole_text<R: Read + Drop>(
-    alloc: Global,
-    front: Vec<u8>,
-    input: R,
-) -> Result<Option<Vec<u8>>, Failure> {
-    let mut text = front;
-    let room = TEXT_LIMIT.saturating_sub(text.len());
-    match read_input(alloc, room, &mut Watched::new(input)) {
-        Ok(Some(rest)) => match text.extend_from_slice(rest.as_slice()) {
-            Ok(()) => Ok(Some(text)),
-            Err(AllocError) => Err(Failure::OutOfMemory),
-        },
-        Ok(None) => Ok(None),
-        Err(failure) => Err(failure),
-    }
+    block.resize(BLOCK, 0).map_err(|_| Failure::OutOfMemory)?;
+    let count = input
+        .read(block.as_mut_slice())
+        .map_err(|_| Failure::ReadFailed)?;
+    block.truncate(count);
+    Ok(block)
 }

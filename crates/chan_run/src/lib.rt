@@ -59,11 +59,8 @@ pub use crate::meanings::{explain_word, list_words};
 pub use crate::name::Naming;
 pub use crate::named_ccw::respond_to_ccw;
 pub use crate::one_ccw::{ShowError, show};
-pub use crate::option_fault::{
-    report_all_with_of, report_file, report_grants, report_many_ccws, report_no_ccw, report_option,
-    report_usage, report_wide_with_range,
-};
-pub use crate::option_values::{address_option, options_of, range_option};
+pub use crate::option_fault::{report_file, report_many_ccws, report_option, report_usage};
+pub use crate::option_values::{offence_action, options_of, range_action};
 pub use crate::outcome::{Outcome, ends_run, exit_status, greater_status, report};
 pub use crate::response::{Response, respond};
 pub use crate::status::{RunError, Status, run};

@@ -7,32 +7,10 @@ use crate::extra_word::{around_storage, rephrased};
 use crate::image_options::OptionFault;
 use crate::texts::write_texts;
 use ccw_core::{DeviceFault, Watched};
-use chan_args::{GrantFault, ImageOption};
+use chan_args::ImageOption;
 use std::io::Write;
 
-/// What the text of the usage fault begins with that an option stands beside the least job.
-const WITH_LEAST: &str = "error: the argument '--least' cannot be used with '";
-
-/// The same beside the open job.
-const WITH_OPEN: &str = "error: the argument '--open' cannot be used with '";
-
-/// The same beside each cause.
-const WITH_ALL: &str = "error: the argument '--all' cannot be used with '";
-
-/// The same beside a wide listing.
-const WITH_WIDE: &str = "error: the argument '--wide' cannot be used with '";
-
-/// The text of the usage fault that there is neither an extent nor the least job nor the open job.
-const NO_EXTENT: &str = "error: the following required arguments were not provided:
-  <--extent <FIRST-LAST>|--least|--open>";
-
-/// The text of the usage fault that there is no CCW to be shown.
-const NO_CCW: &str = "error: the following required arguments were not provided:
-  <CCW>
-
-Usage: chanv show [--name] <CCW>";
-
-/// The text of the usage fault that there are too many words for one.
+/// The text of the usage fault that there are too many words for a CCW.
 const MANY_CCWS: &str = "error: chanv show takes one CCW; --name takes it in any words
 
 Usage: chanv show [--name] <CCW>";
@@ -86,51 +64,6 @@ pub fn report_option<W: Write>(fault: OptionFault<'_>, to: &mut Watched<W>) -> u
     4
 }
 
-/// Writes the text of the usage fault that options don't say one job, and gives the exit status, 4,
-/// as `report_option` does.
-pub fn report_grants<W: Write>(fault: GrantFault, to: &mut Watched<W>) -> u8
-    requires { to.old.failed ≡ false }
-    ensures { result ≡ 4 }
-{
-    let _ = match fault {
-        GrantFault::WithLeast(option) => write_grant_fault(WITH_LEAST, usage(option), to),
-        GrantFault::WithOpen(option) => write_grant_fault(WITH_OPEN, usage(option), to),
-        GrantFault::NoExtent => write_texts(&[NO_EXTENT, MORE], to),
-    };
-    4
-}
-
-/// Writes the text of the usage fault that both each cause and the offence at an address are asked
-/// for, and gives the exit status, 4, as `report_option` does.
-pub fn report_all_with_of<W: Write>(to: &mut Watched<W>) -> u8
-    requires { to.old.failed ≡ false }
-    ensures { result ≡ 4 }
-{
-    let _ = write_grant_fault(WITH_ALL, usage(ImageOption::Of), to);
-    4
-}
-
-/// Writes the text of the usage fault that both a wide listing and that of a range are asked for,
-/// and gives the exit status, 4, as `report_option` does.
-pub fn report_wide_with_range<W: Write>(to: &mut Watched<W>) -> u8
-    requires { to.old.failed ≡ false }
-    ensures { result ≡ 4 }
-{
-    let _ = write_grant_fault(WITH_WIDE, usage(ImageOption::Range), to);
-    4
-}
-
-/// Writes the text of the usage fault that an option stands beside another, which begins so.
-fn write_grant_fault<W: Write>(
-    front: &str,
-    usage: &str,
-    to: &mut Watched<W>,
-) -> Result<(), DeviceFault>
-    requires { to.old.failed ≡ false }
-{
-    write_texts(&[front, usage, "'", MORE], to)
-}
-
 /// Writes the text of the usage fault that the name of a file stands in place of a command, and
 /// gives the exit status, 4, as `report_option` does.
 pub fn report_file<W: Write>(name: &str, to: &mut Watched<W>) -> u8
@@ -143,16 +76,6 @@ pub fn report_file<W: Write>(name: &str, to: &mut Watched<W>) -> u8
         ],
         to,
     );
-    4
-}
-
-/// Writes the text of the usage fault that no CCW was given to show, and gives the exit status, 4,
-/// as `report_option` does.
-pub fn report_no_ccw<W: Write>(to: &mut Watched<W>) -> u8
-    requires { to.old.failed ≡ false }
-    ensures { result ≡ 4 }
-{
-    let _ = write_texts(&[NO_CCW, MORE], to);
     4
 }
 
@@ -215,7 +138,6 @@ fn usage<'a>(option: ImageOption) -> &'a str {
         ImageOption::Store => "--store <AREA>",
         ImageOption::At => "--at <ADDRESS>",
         ImageOption::Storage => "--storage <SIZE>",
-        ImageOption::Open => "--open",
         ImageOption::Of => "--of <ADDRESS>",
         ImageOption::Range => "--range <AREA>",
     }

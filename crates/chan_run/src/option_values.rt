@@ -14,7 +14,7 @@ use crate::options::{
     address_of, area_of, device_of, extent_of, hexadecimal_of, limit_of, mask_of, size_of,
 };
 use ccw_core::Area;
-use chan_args::{ImageOption, ImageWords};
+use chan_args::{Action, Explained, ImageOption, ImageWords};
 use chan_walk::Limit;
 use ckd_core::Extents;
 use std::alloc::Global;
@@ -103,10 +103,10 @@ fn size_or_none<'a>(text: Option<&'a str>) -> Result<Option<u32>, OptionError<'a
 /// What the address of an offence is: it may be past storage, to which a chain may lead.
 const OFFENCE_FORM: &str = "a hexadecimal address, at most FFFFFFFF";
 
-/// The address of the offence that is asked about, or why its text isn't accepted.
-pub fn address_option(text: &str) -> Result<u32, OptionFault<'_>> {
+/// The explanation of the offence at an address, or why the text of that isn't accepted.
+pub fn offence_action(text: &str) -> Result<Action, OptionFault<'_>> {
     match hexadecimal_of(text) {
-        Some(address) => Ok(address),
+        Some(address) => Ok(Action::Why(Explained::At(address))),
         None => Err(OptionFault {
             option: ImageOption::Of,
             text,
@@ -115,10 +115,10 @@ pub fn address_option(text: &str) -> Result<u32, OptionFault<'_>> {
     }
 }
 
-/// The range of storage that is to be listed, or why its text isn't accepted.
-pub fn range_option(text: &str) -> Result<Area, OptionFault<'_>> {
+/// The listing of a range of storage, or why the text of that isn't accepted.
+pub fn range_action(text: &str) -> Result<Action, OptionFault<'_>> {
     match area_of(text) {
-        Ok(range) => Ok(range),
+        Ok(Area { start, len }) => Ok(Action::Range { start, len }),
         Err(why) => Err(OptionFault {
             option: ImageOption::Range,
             text,

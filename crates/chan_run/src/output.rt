@@ -1,9 +1,8 @@
 //! The output of each action on a job that was judged.
 
-ghost use Rattle.std.specs.Prelude.{◌≡◌, ◌++◌, List, ℕ, true, IfOk, string_bytes};
+ghost use Rattle.std.specs.Prelude.{◌≡◌, ◌++◌, true, IfOk, string_bytes};
 ghost use Rattle.chan_args.specs.declared.action.Action.TheVariants as actions;
 ghost use Rattle.chan_deck.specs.Graph.{IsPictureOf};
-ghost use Rattle.chan_deck.specs.Listing.{seen_listing};
 ghost use Rattle.chan_deck.specs.VerdictLine.{verdict_line};
 ghost use Rattle.chan_walk.specs.Offence.{first_verdict};
 ghost use Rattle.chan_walk.specs.JobSurvey.{IsSurvey};
@@ -13,7 +12,7 @@ ghost use Rattle.chan_run.specs.Output.{IsActionOutput};
 use crate::name::{Naming, heading_of};
 use ccw_core::Area;
 use chan_deck::{Picture, graph_text, listing_text, range_text, verdict_text, wide_listing};
-use chan_walk::{Evidence, Job, Look, Offence, Place, Survey, Verdict};
+use chan_walk::{Evidence, Job, Place, Survey, Verdict};
 use std::alloc::{AllocError, Global};
 
 /// The line of a verdict after the name of the input.
@@ -44,43 +43,11 @@ pub(crate) fn list_output(
     let verdict = survey.verdict();
     let (looks, offences) = survey.into_parts();
     if wide {
-        return wide_output(alloc, naming, job, &looks, &offences, verdict);
+        let listing = wide_listing(alloc, job, &looks, &offences, verdict)?;
+        return text_under(alloc, naming, listing.as_bytes());
     }
-    plain_output(alloc, naming, looks.as_slice(), verdict)
-}
-
-/// The listing of these looks and this verdict behind its heading.
-fn plain_output(
-    alloc: Global,
-    naming: Naming<'_>,
-    looks: &[Look],
-    verdict: Verdict,
-) -> Result<Vec<u8>, AllocError>
-    ensures { IfOk result (λ text. text.items
-        ≡ heading_of naming.entry ++ seen_listing looks.now verdict) }
-{
-    let mut text = heading_of(alloc, naming)?;
-    let listing = listing_text(alloc, looks, verdict)?;
-    text.extend_from_slice(listing.as_bytes())?;
-    Ok(text)
-}
-
-/// The wide listing of these looks and offences behind its heading. Tests hold its rows.
-fn wide_output(
-    alloc: Global,
-    naming: Naming<'_>,
-    job: &Job,
-    looks: &[Look],
-    offences: &[Offence],
-    verdict: Verdict,
-) -> Result<Vec<u8>, AllocError>
-    ensures { IfOk result (λ text. (rows : List ℕ) × (text.items
-        ≡ heading_of naming.entry ++ (rows ++ verdict_line verdict))) }
-{
-    let mut text = heading_of(alloc, naming)?;
-    let listing = wide_listing(alloc, job, looks, offences, verdict)?;
-    text.extend_from_slice(listing.as_bytes())?;
-    Ok(text)
+    let listing = listing_text(alloc, looks.as_slice(), verdict)?;
+    text_under(alloc, naming, listing.as_bytes())
 }
 
 /// The listing of a range of storage behind its heading. Tests hold it.
@@ -91,10 +58,11 @@ pub(crate) fn range_output(
     job: &Job,
     verdict: Verdict,
 ) -> Result<Vec<u8>, AllocError> {
-    let mut text = heading_of(alloc, naming)?;
-    let listing = range_text(alloc, job, range, verdict)?;
-    text.extend_from_slice(listing.as_bytes())?;
-    Ok(text)
+    text_under(
+        alloc,
+        naming,
+        range_text(alloc, job, range, verdict)?.as_bytes(),
+    )
 }
 
 /// What a picture shows beside the places. Tests hold it.
@@ -104,7 +72,7 @@ pub(crate) struct Remarks {
     pub(crate) evidence: Vec<Evidence>,
     /// The place that stores over the end of the path to the verdict's place.
     pub(crate) stored_over: Option<Place>,
-    pub(crate) notes: Vec<u8>,
+    pub(crate) notes: String,
 }
 
 /// The picture of a job that was surveyed. Tests hold its text behind the title.
@@ -129,7 +97,7 @@ pub(crate) fn picture_output(
         offences: &offences,
         causes: &remarks.evidence,
         stored_over: remarks.stored_over,
-        notes: str::from_utf8(&remarks.notes).unwrap_or(""),
+        notes: remarks.notes.as_str(),
     };
     Ok(graph_text(alloc, &picture)?.into_bytes())
 }
@@ -147,4 +115,17 @@ pub(crate) fn text_after(
         None => Ok(text.into_bytes()),
         Some(name) => Ok(format!(in alloc; "{name}: {text}")?.into_bytes()),
     }
+}
+
+/// A text behind the heading that the input may have.
+pub(crate) fn text_under(
+    alloc: Global,
+    naming: Naming<'_>,
+    text: &[u8],
+) -> Result<Vec<u8>, AllocError>
+    ensures { IfOk result (λ headed. headed.items ≡ heading_of naming.entry ++ text.now) }
+{
+    let mut headed = heading_of(alloc, naming)?;
+    headed.extend_from_slice(text)?;
+    Ok(headed)
 }

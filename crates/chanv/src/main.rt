@@ -12,14 +12,14 @@
 ghost use Rattle.std.specs.Prelude.{◌≡◌, ◌↔◌, true};
 ghost use Rattle.chan_run.specs.Outcome.{IsWriteFailure};
 
-use ccw_core::{Area, Watched};
-use chan_args::{Action, Explained, ImageRequest, Request, read_request};
+use ccw_core::Watched;
+use chan_args::{Action, ImageRequest, Request, read_request};
 use chan_run::{
-    Failure, ImageInput, ImageOptions, Naming, OptionError, Outcome, Response, address_option,
+    Failure, ImageInput, ImageOptions, Naming, OptionError, OptionFault, Outcome, Response,
     deliver, ends_run, exit_status, explain_word, find_programs, greater_status, judge_deck,
-    list_words, make_deck, note_usual_device, options_of, range_option, report, report_all_with_of,
-    report_file, report_grants, report_many_ccws, report_no_ccw, report_option, report_usage,
-    report_wide_with_range, respond_to_ccw, show, shown_word, take_image,
+    list_words, make_deck, note_usual_device, offence_action, options_of, range_action, report,
+    report_file, report_many_ccws, report_option, report_usage, respond_to_ccw, show, shown_word,
+    take_image,
 };
 use std::alloc::AllocError;
 use std::env::{Env, FillError};
@@ -31,6 +31,15 @@ use std::{io, str};
 
 /// The first size of the room for a word, in bytes.
 const USUAL_ROOM: usize = 256;
+
+/// What is done with each input.
+#[derive(Clone, Copy)]
+enum Task<'a> {
+    /// Its deck is judged.
+    Judge(Action),
+    /// The programs in its image are found, or else a deck is made of it.
+    Search(&'a ImageRequest<'a>, bool),
+}
 
 /// An input without a name.
 const UNNAMED: Naming<'static> = Naming {
@@ -97,7 +106,7 @@ impl Write for Explanation {
 fn main(rt: HostRuntime) -> ExitCode {
     ExitCode::from(match read_words(&rt) {
         Ok(words) => carry_out(&rt, &words),
-        Err(AllocError) => report_on(&rt, None, Outcome::Failed(Failure::OutOfMemory)),
+        Err(AllocError) => report_no_memory(&rt),
     })
 }
 
@@ -139,26 +148,21 @@ fn carry_out(rt: &HostRuntime, words: &Words) -> u8 {
         Request::Show(parts) => show_ccw(rt, parts.as_slice()),
         Request::ShowNamed(parts) => show_named_ccw(rt, parts.as_slice()),
         Request::ManyCcws => report_many_ccws(&mut Watched::new(rt.stderr())),
-        Request::NoCcw => report_no_ccw(&mut Watched::new(rt.stderr())),
-        Request::Run(action) => {
-            exit_status(run_over(rt, action, UNNAMED, Input::Standard(rt.stdin())))
-        }
-        Request::RunNamed(action, names) => run_over_each(rt, words, action, names.as_slice()),
-        Request::Image(request) => carry_out_request(rt, words, &request, false),
-        Request::Find(request) => carry_out_request(rt, words, &request, true),
-        Request::Grants(fault) => report_grants(fault, &mut Watched::new(rt.stderr())),
+        Request::Run(action, names) => judge_all(rt, words, Ok(action), names.as_slice()),
+        Request::Image(request) => search_all(rt, words, &request, false),
+        Request::Find(request) => search_all(rt, words, &request, true),
         Request::ExplainOffence(address, names) => {
-            explain_offences(rt, words, address, names.as_slice())
+            judge_all(rt, words, offence_action(address), names.as_slice())
         }
-        Request::AllWithOf => report_all_with_of(&mut Watched::new(rt.stderr())),
-        Request::ListRange(range, names) => list_ranges(rt, words, range, names.as_slice()),
-        Request::WideWithRange => report_wide_with_range(&mut Watched::new(rt.stderr())),
+        Request::ListRange(range, names) => {
+            judge_all(rt, words, range_action(range), names.as_slice())
+        }
         Request::Explain(parts) => explain(rt, parts.as_slice()),
         Request::ExplainFlags(flags) => explain(rt, &[flags]),
         Request::Words => list_all_words(rt),
         Request::Help(text) | Request::Version(text) => match text.to_string(rt.alloc()) {
             Ok(text) => print_out(rt, text),
-            Err(AllocError) => report_on(rt, None, Outcome::Failed(Failure::OutOfMemory)),
+            Err(AllocError) => report_no_memory(rt),
         },
         Request::NoCommand(word, _) if is_file(rt, words, word) => {
             report_file(word, &mut Watched::new(rt.stderr()))
@@ -171,15 +175,20 @@ fn carry_out(rt: &HostRuntime, words: &Words) -> u8 {
                     &mut Watched::new(rt.stderr()),
                 )
             }
-            Err(AllocError) => report_on(rt, None, Outcome::Failed(Failure::OutOfMemory)),
+            Err(AllocError) => report_no_memory(rt),
         },
-        Request::NoMemory => report_on(rt, None, Outcome::Failed(Failure::OutOfMemory)),
+        Request::NoMemory => report_no_memory(rt),
     }
 }
 
 /// Reports what came of an input that may have a name, and gives the exit status.
 fn report_on(rt: &HostRuntime, name: Option<&str>, outcome: Outcome) -> u8 {
     report(name, outcome, &mut Watched::new(rt.stderr()))
+}
+
+/// Reports that memory ran out, and gives the exit status.
+fn report_no_memory(rt: &HostRuntime) -> u8 {
+    report_on(rt, None, Outcome::Failed(Failure::OutOfMemory))
 }
 
 /// Ends with an outcome of which this is the output, and gives the exit status.
@@ -223,7 +232,7 @@ fn show_ccw(rt: &HostRuntime, parts: &[&str]) -> u8 {
 fn show_named_ccw(rt: &HostRuntime, parts: &[&str]) -> u8 {
     match joined(rt, parts, " ") {
         Ok(text) => deliver_out(rt, &respond_to_ccw(rt.alloc(), text.as_bytes())),
-        Err(AllocError) => report_on(rt, None, Outcome::Failed(Failure::OutOfMemory)),
+        Err(AllocError) => report_no_memory(rt),
     }
 }
 
@@ -249,41 +258,56 @@ fn joined(rt: &HostRuntime, parts: &[&str], between: &str) -> Result<String, All
     Ok(text)
 }
 
-/// Explains the first offence at the address that a text spells, in each of these inputs, or in
-/// standard input if there is none.
-fn explain_offences(rt: &HostRuntime, words: &Words, address: &str, names: &[&str]) -> u8 {
-    match address_option(address) {
-        Ok(address) => run_over_all(rt, words, Action::Why(Explained::At(address)), names),
-        Err(fault) => report_option(fault, &mut Watched::new(rt.stderr())),
-    }
-}
-
-/// Lists the range of storage that a text spells, of each of these inputs, or of standard input if
-/// there is none.
-fn list_ranges(rt: &HostRuntime, words: &Words, range: &str, names: &[&str]) -> u8 {
-    match range_option(range) {
-        Ok(Area { start, len }) => run_over_all(rt, words, Action::Range { start, len }, names),
-        Err(fault) => report_option(fault, &mut Watched::new(rt.stderr())),
-    }
-}
-
-/// Runs over each input, or over standard input if there is none, and gives the exit status.
-fn run_over_all(rt: &HostRuntime, words: &Words, action: Action, names: &[&str]) -> u8 {
-    match names {
-        [] | ["-"] => exit_status(run_over(rt, action, UNNAMED, Input::Standard(rt.stdin()))),
-        _ => run_over_each(rt, words, action, names),
-    }
-}
-
 fn list_all_words(rt: &HostRuntime) -> u8 {
     let mut output = Watched::new(Explanation(rt.stdout()));
     let answer = list_words(&mut output);
     end_with(rt, answer, &mut output)
 }
 
+/// Judges the deck of each input as it is asked for, or reports why that isn't accepted.
+fn judge_all(
+    rt: &HostRuntime,
+    words: &Words,
+    action: Result<Action, OptionFault<'_>>,
+    names: &[&str],
+) -> u8 {
+    match action {
+        Ok(action) => run_over_all(rt, words, Task::Judge(action), names),
+        Err(fault) => report_option(fault, &mut Watched::new(rt.stderr())),
+    }
+}
+
+/// Finds the programs in an image of storage, or makes a deck of it, and gives the exit status.
+fn search_all(rt: &HostRuntime, words: &Words, request: &ImageRequest<'_>, finds: bool) -> u8 {
+    match options_of(rt.alloc(), &request.words) {
+        Ok(_) => (),
+        Err(OptionError::Wrong(fault)) => {
+            return report_option(fault, &mut Watched::new(rt.stderr()));
+        }
+        Err(OptionError::Memory) => return report_no_memory(rt),
+    }
+    if request.is_usual_device {
+        note_usual_device(&mut Watched::new(rt.stderr()));
+    }
+    run_over_all(
+        rt,
+        words,
+        Task::Search(request, finds),
+        request.files.as_slice(),
+    )
+}
+
+/// Runs over each input, or over standard input if there is none, and gives the exit status.
+fn run_over_all(rt: &HostRuntime, words: &Words, task: Task<'_>, names: &[&str]) -> u8 {
+    match names {
+        [] | ["-"] => run_over(rt, task, UNNAMED, Input::Standard(rt.stdin())).0,
+        _ => run_over_each(rt, words, task, names),
+    }
+}
+
 /// Runs over each input in turn, up to a failed write, and gives the greatest status. The names
 /// are in the order of the words.
-fn run_over_each(rt: &HostRuntime, words: &Words, action: Action, names: &[&str]) -> u8 {
+fn run_over_each(rt: &HostRuntime, words: &Words, task: Task<'_>, names: &[&str]) -> u8 {
     let mut greatest = 0;
     let mut number = 0;
     for name in names {
@@ -292,14 +316,31 @@ fn run_over_each(rt: &HostRuntime, words: &Words, action: Action, names: &[&str]
             is_among: names.len() > 1,
         };
         number = words.first_shown_as(number, name);
-        let input = open_input(rt, words, number, name);
-        let outcome = run_over_opened(rt, action, naming, input);
-        greatest = greater_status(greatest, exit_status(outcome));
-        if ends_run(outcome) {
+        let (status, is_last) = match open_input(rt, words, number, name) {
+            Ok(input) => run_over(rt, task, naming, input),
+            Err(failure) => (report_on(rt, naming.name, Outcome::Failed(failure)), false),
+        };
+        greatest = greater_status(greatest, status);
+        if is_last {
             break;
         }
     }
     greatest
+}
+
+/// Runs over an input, and gives the exit status and whether a write failed, after which no other
+/// input follows.
+fn run_over(rt: &HostRuntime, task: Task<'_>, naming: Naming<'_>, input: Input) -> (u8, bool) {
+    match task {
+        Task::Judge(action) => {
+            let outcome = judge(rt, action, naming, input);
+            (exit_status(outcome), ends_run(outcome))
+        }
+        Task::Search(..) if naming.is_among && !print_heading(rt, naming) => {
+            (exit_status(Outcome::Failed(Failure::WriteFailed)), true)
+        }
+        Task::Search(request, finds) => (search(rt, naming.name, request, finds, input), false),
+    }
 }
 
 /// The input of this name: standard input if it is `-`, and else the file that the word of this
@@ -309,65 +350,34 @@ fn open_input(
     words: &Words,
     number: usize,
     name: &str,
-) -> Result<Input, Outcome> {
+) -> Result<Input, Failure> {
     if name == "-" {
         return Ok(Input::Standard(rt.stdin()));
     }
-    match open_file(rt, words, number) {
-        Ok(file) => Ok(Input::File(file)),
-        Err(outcome) => Err(outcome),
+    Ok(Input::File(open_file(rt, words, number)?))
+}
+
+/// Opens the file that the word of this number names, unless it is a folder. A name that isn't
+/// UTF-8 can't be opened.
+fn open_file(rt: &HostRuntime, words: &Words, number: usize) -> Result<File, Failure> {
+    let bytes = words.bytes.get(number).ok_or(Failure::CannotOpen)?;
+    let path = str::from_utf8(bytes.as_slice()).map_err(|_| Failure::CannotOpen)?;
+    let mut file = File::open(rt, path).map_err(|error| failure_of(error.kind()))?;
+
+    // a read of no bytes waits for none, and tells a folder
+    match file.read(&mut []) {
+        Err(error) if error.kind() == io::ErrorKind::IsADirectory => Err(Failure::IsFolder),
+        _ => Ok(file),
     }
 }
 
-/// Runs over an input that is named so, or reports that it can't be opened.
-fn run_over_opened(
-    rt: &HostRuntime,
-    action: Action,
-    naming: Naming<'_>,
-    input: Result<Input, Outcome>,
-) -> Outcome {
-    match input {
-        Ok(input) => run_over(rt, action, naming, input),
-        Err(outcome) => {
-            report_on(rt, naming.name, outcome);
-            outcome
-        }
-    }
-}
-
-/// Opens the file that the word of this number names. A name that isn't UTF-8 can't be opened.
-fn open_file(rt: &HostRuntime, words: &Words, number: usize) -> Result<File, Outcome> {
-    let cannot_open = Outcome::Failed(Failure::CannotOpen);
-    let Some(bytes) = words.bytes.get(number) else {
-        return Err(cannot_open);
-    };
-    let Ok(path) = str::from_utf8(bytes.as_slice()) else {
-        return Err(cannot_open);
-    };
-    match File::open(rt, path) {
-        Ok(file) => no_folder(file),
-        Err(error) => Err(Outcome::Failed(failure_of(error.kind()))),
-    }
-}
-
-/// Why a file can't be opened or read, as far as the system tells.
+/// Why a file can't be opened, as far as the system tells.
 fn failure_of(kind: io::ErrorKind) -> Failure {
     match kind {
         io::ErrorKind::NotFound => Failure::NoSuchFile,
         io::ErrorKind::PermissionDenied => Failure::PermissionDenied,
         io::ErrorKind::IsADirectory => Failure::IsFolder,
         _ => Failure::CannotOpen,
-    }
-}
-
-/// A file that isn't a folder. A read of no bytes tells: it waits for none.
-fn no_folder(file: File) -> Result<File, Outcome> {
-    let mut file = file;
-    match file.read(&mut []) {
-        Err(error) if error.kind() == io::ErrorKind::IsADirectory => {
-            Err(Outcome::Failed(Failure::IsFolder))
-        }
-        _ => Ok(file),
     }
 }
 
@@ -382,8 +392,8 @@ fn is_file(rt: &HostRuntime, words: &Words, shown: &str) -> bool {
     }
 }
 
-/// Runs over an input that is named so.
-fn run_over(rt: &HostRuntime, action: Action, naming: Naming<'_>, input: Input) -> Outcome {
+/// Judges the deck of an input that is named so.
+fn judge(rt: &HostRuntime, action: Action, naming: Naming<'_>, input: Input) -> Outcome {
     let mut input = Watched::new(input);
     let mut output = Watched::new(rt.stdout());
     let mut errors = Watched::new(rt.stderr());
@@ -397,132 +407,63 @@ fn run_over(rt: &HostRuntime, action: Action, naming: Naming<'_>, input: Input) 
     )
 }
 
-/// Finds the programs in an image of storage, or makes a deck of it, and gives the exit status.
-fn carry_out_request(
-    rt: &HostRuntime,
-    words: &Words,
-    request: &ImageRequest<'_>,
-    finds: bool,
-) -> u8 {
-    match options_of(rt.alloc(), &request.words) {
-        Ok(_) => (),
-        Err(OptionError::Wrong(fault)) => {
-            return report_option(fault, &mut Watched::new(rt.stderr()));
-        }
-        Err(OptionError::Memory) => return report_on(
-            rt,
-            None,
-            Outcome::Failed(Failure::OutOfMemory),
-        ),
-    }
-    if request.is_usual_device {
-        note_usual_device(&mut Watched::new(rt.stderr()));
-    }
-    match request.files.as_slice() {
-        [] | ["-"] => carry_out_over(rt, None, request, finds, Input::Standard(rt.stdin())),
-        names => carry_out_over_each(rt, words, names, request, finds),
-    }
-}
-
-/// Does so with each image in turn, up to a failed write, and gives the greatest status. The names
-/// are in the order of the words. Over the lines of one of several stands its name.
-fn carry_out_over_each(
-    rt: &HostRuntime,
-    words: &Words,
-    names: &[&str],
-    request: &ImageRequest<'_>,
-    finds: bool,
-) -> u8 {
-    let mut greatest = 0;
-    let mut number = 0;
-    for name in names {
-        number = words.first_shown_as(number, name);
-        let status = match open_input(rt, words, number, name) {
-            Ok(input) => {
-                if names.len() > 1 && !print_heading(rt, name) {
-                    return exit_status(Outcome::Failed(Failure::WriteFailed));
-                }
-                carry_out_over(rt, Some(name), request, finds, input)
-            }
-            Err(outcome) => report_on(rt, Some(name), outcome),
-        };
-        greatest = greater_status(greatest, status);
-    }
-    greatest
-}
-
 /// Writes the line over the lines of one of several inputs, or reports that it can't.
-fn print_heading(rt: &HostRuntime, name: &str) -> bool {
-    let status = match joined(rt, &[name, "\n"], ":") {
+fn print_heading(rt: &HostRuntime, naming: Naming<'_>) -> bool {
+    let status = match joined(rt, &[naming.name.unwrap_or(""), "\n"], ":") {
         Ok(line) => print_out(rt, line),
-        Err(AllocError) => report_on(rt, None, Outcome::Failed(Failure::OutOfMemory)),
+        Err(AllocError) => report_no_memory(rt),
     };
     status == 0
 }
 
-/// Finds the programs in an image that may have a name, or makes a deck of it.
-fn carry_out_over(
+/// Finds the programs in an image that may have a name, or makes a deck of it, and gives the exit
+/// status.
+fn search(
     rt: &HostRuntime,
     name: Option<&str>,
     request: &ImageRequest<'_>,
     finds: bool,
     input: Input,
 ) -> u8 {
-    let mut errors = Watched::new(rt.stderr());
     // the options were read before, so only memory can be refused
     let Ok(options) = options_of(rt.alloc(), &request.words) else {
-        return report(name, Outcome::Failed(Failure::OutOfMemory), &mut errors);
+        return report_on(rt, name, Outcome::Failed(Failure::OutOfMemory));
     };
-    match take_image(
-        rt.alloc(),
-        name,
-        options,
-        request.is_placed,
-        input,
-        &mut errors,
-    ) {
-        Ok((options, image)) if finds => find_in(rt, name, &options, image),
-        Ok((options, image)) => make_deck_from(rt, name, &options, image),
+    let mut errors = Watched::new(rt.stderr());
+    let is_placed = request.is_placed;
+    match take_image(rt.alloc(), name, options, is_placed, input, &mut errors) {
+        Ok((options, image)) => exit_status(answer_on(rt, name, &options, finds, image)),
         Err(status) => status,
     }
 }
 
-/// Finds the programs in an image that may have a name, and gives the exit status.
-fn find_in(
+/// Finds the programs in what an image is read from, or makes a deck of it.
+fn answer_on(
     rt: &HostRuntime,
     name: Option<&str>,
     options: &ImageOptions,
-    input: ImageInput<Input>,
-) -> u8 {
-    let mut input = Watched::new(input);
+    finds: bool,
+    image: ImageInput<Input>,
+) -> Outcome {
+    let mut input = Watched::new(image);
     let mut output = Watched::new(rt.stdout());
     let mut errors = Watched::new(rt.stderr());
-    exit_status(find_programs(
+    if finds {
+        return find_programs(
+            rt.alloc(),
+            name,
+            options,
+            &mut input,
+            &mut output,
+            &mut errors,
+        );
+    }
+    make_deck(
         rt.alloc(),
         name,
         options,
         &mut input,
         &mut output,
         &mut errors,
-    ))
-}
-
-/// Makes a deck of an image that may have a name, and gives the exit status.
-fn make_deck_from(
-    rt: &HostRuntime,
-    name: Option<&str>,
-    options: &ImageOptions,
-    input: ImageInput<Input>,
-) -> u8 {
-    let mut input = Watched::new(input);
-    let mut output = Watched::new(rt.stdout());
-    let mut errors = Watched::new(rt.stderr());
-    exit_status(make_deck(
-        rt.alloc(),
-        name,
-        options,
-        &mut input,
-        &mut output,
-        &mut errors,
-    ))
+    )
 }

@@ -86,6 +86,17 @@ impl<'a> Arg<'a> {
     pub fn required(self, is_so: bool) -> Arg<'a> {
         self.with(|arg| arg.required(is_so))
     }
+
+    pub fn required_unless_present_any(
+        self,
+        ids: &'static [&'static str],
+    ) -> Result<Arg<'a>, AllocError> {
+        Ok(self.with(|arg| arg.required_unless_present_any(ids.iter().copied())))
+    }
+
+    pub fn conflicts_with_all(self, ids: &'static [&'static str]) -> Result<Arg<'a>, AllocError> {
+        Ok(self.with(|arg| arg.conflicts_with_all(ids.iter().copied())))
+    }
 }
 
 pub struct Command<'a>(of_rust::Command, PhantomData<&'a ()>);

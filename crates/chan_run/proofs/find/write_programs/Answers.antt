@@ -15,8 +15,8 @@ loop-start-preserved g c =
     let image = c.args.image.now in
     let held : bytes_held c.unwrap-storage.result ≡ storage_with o.at image = search rules in
     let (sound, (text, lines, app)) = c.loop-start.invariant in
-    let line = string_bytes c.in-Ok-program_line.line in
-    let at = c.in-Ok-program_line.ensures image held in
+    let line = string_bytes c.in-Ok-line.line in
+    let at = c.in-Ok-line.ensures image held in
     let more : Appends (g.W.Write.contents c.loop-start.to.device) (g.W.Write.contents c.write_out.new.to.device) line = search rules in (
       search rules,
       (
@@ -34,22 +34,22 @@ returns-then-is_err-clause-answer g c =
     let held : bytes_held c.unwrap-storage.result ≡ storage_with o.at image = search rules in
     let starts = c.as_slice-start-items in
     let (sound, (text, lines, app)) = c.loop-start.invariant in
-    let line = string_bytes c.in-Ok-program_line.line in (
+    let line = string_bytes c.in-Ok-line.line in (
       starts.result.now,
       starts_over o image _ _ _ held starts.ensures.value c.in-Ok-program_starts.ensures,
       suc c.loop-start.start-index,
       record {
         text = text ++ line;
-        after = c.program_line.new.left;
+        after = c.program_line-line.new.left;
         lines = lines_more o image starts.result.now c.loop-start.start-index 0 PLACES_JUDGED _ _ text line c.loop-start-test.true lines
-            (c.in-Ok-program_line.ensures image held);
+            (c.in-Ok-line.ensures image held);
         written = prefix_after _ _ _ text line app (rw c.as_bytes.ensures.value at c.write_out.ensures.prefix);
       },
     )
 
-pub returns-in_default-program_line-clause-answer :
-    goal.returns-in_default-program_line-clause-answer
-returns-in_default-program_line-clause-answer g c =
+pub returns-in_default-line-clause-answer :
+    goal.returns-in_default-line-clause-answer
+returns-in_default-line-clause-answer g c =
     let o = c.args.options.now in
     let image = c.args.image.now in
     let held : bytes_held c.unwrap-storage.result ≡ storage_with o.at image = search rules in
