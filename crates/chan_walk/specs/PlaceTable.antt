@@ -4,7 +4,7 @@ use Rattle.std.specs.Prelude.{◌≡◌, ℕ, ◌+◌, ◌≤◌, List, length, 
 use Rattle.std.specs.Prelude.{None, Some}
 use Rattle.chan_walk.specs.declared.place.Place.{Place}
 use Rattle.chan_walk.specs.declared.place_table.PlaceTable.{PlaceTable}
-use Rattle.chan_walk.specs.AddressTable.{HasRows, number_at}
+use Rattle.chan_walk.specs.AddressTable.{number_at}
 use Rattle.chan_walk.specs.Argument.{Has}
 
 -- the index of a place in a list, if the list has it
@@ -19,7 +19,6 @@ pub record IsLastAt (ps : List Place) (a n : ℕ) : Type 0 where
 
 -- the table finds the places of the list
 pub record FindsPlaces (t : PlaceTable) (ps : List Place) : Type 0 where
-  pub rows : HasRows t.last
   pub each : length t.before.items ≡ length ps
   pub last : (a : ℕ) → IsLastAt ps a (number_at t.last a)
   pub before : (i : ℕ) (p : Place) → slice_get ps i ≡ Some p

@@ -1,20 +1,16 @@
 //! A table of numbers by address, in which each is found at once.
 
-ghost use Rattle.std.specs.Prelude.{◌≡◌, ℕ, ◌<◌, ◌+◌, ◌*◌, ◌^◌, ◌==◌, if◌then◌else◌, IfOk, OnOk};
-ghost use Rattle.std.specs.Prelude.{true, false, length, slice_index};
+ghost use Rattle.std.specs.Prelude.{◌≡◌, ℕ, ◌<◌, ◌≤◌, ◌^◌, ◌==◌, if◌then◌else◌, OnOk, true, false};
+ghost use Rattle.std.specs.Prelude.{length, slice_index};
 ghost use Rattle.chan_walk.specs.AddressTable as table;
-ghost use Rattle.chan_walk.specs.AddressTable.{HaveRows, HasRows, KeepsNumbers, number_at};
-ghost use Rattle.chan_walk.specs.declared.address_table.TheConstants.{ROW};
+ghost use Rattle.chan_walk.specs.AddressTable.{number_at};
 
 use ccw_core::STORAGE_LIMIT;
 use std::alloc::{AllocError, Global};
 use std::collections::BTreeMap;
 
 /// How many bytes of storage a page has.
-const PAGE: u32 = 8_192;
-
-/// How many doublewords a page has.
-const ROW: usize = 1_024;
+const PAGE: u32 = 32_768;
 
 /// For how many addresses a number is kept in an ordered map before pages are made.
 const FEW: usize = 8;
@@ -25,31 +21,28 @@ const FEW: usize = 8;
 /// it, so that a few programs far apart need little more than one.
 #[derive(Drop)]
 pub(crate) struct AddressTable {
-    /// For each page up to the last one in use the number of its row, counted from 1; 0 if it has
-    /// none.
-    pages: Vec<usize>,
-    /// The rows of all pages in use: a number for each doubleword.
-    rows: Vec<u32>,
+    /// For each page up to the last one in use a row: a number for each doubleword, up to one at or
+    /// after the last that is set.
+    pages: Vec<Vec<u32>>,
     /// The first few numbers, and those of the few addresses that are no doubleword of storage.
     others: BTreeMap<u32, u32>,
+    alloc: Global,
 }
 
 impl AddressTable {
     /// The table in which each number is 0.
     pub(crate) fn new(alloc: Global) -> AddressTable
-        ensures rows { HasRows result }
-        ensures numbers { (a : ℕ) → number_at result a ≡ 0 }
+        ensures { (a : ℕ) → number_at result a ≡ 0 }
     {
         AddressTable {
             pages: Vec::new(alloc),
-            rows: Vec::new(alloc),
             others: BTreeMap::new(alloc),
+            alloc,
         }
     }
 
     /// The number of an address.
     pub(crate) fn get(&self, address: u32) -> u32
-        requires { HasRows self.now }
         ensures { result ≡ number_at self.now address }
     {
         let number = self.paged(address);
@@ -64,24 +57,21 @@ impl AddressTable {
 
     /// The number that the pages have for an address; 0 if they have none.
     fn paged(&self, address: u32) -> u32
-        requires { HasRows self.now }
         ensures { result ≡ table.paged_in self.now address }
     {
         if !is_doubleword(address) {
             return 0;
         }
         match self.pages.get(page_of(address)) {
-            Some(row) if *row > 0 => self.rows[slot_in(*row - 1, address)],
-            _ => 0,
+            Some(row) => row.get(slot_of(address)).copied().unwrap_or(0),
+            None => 0,
         }
     }
 
     /// Sets the number of an address.
     pub(crate) fn set(&mut self, address: u32, number: u32) -> Result<(), AllocError>
-        requires rows { HasRows self.old }
-        requires some { 0 < number }
-        ensures rows { OnOk result (HasRows self.new) }
-        ensures numbers { OnOk result ((a : ℕ) → number_at self.new a
+        requires { 0 < number }
+        ensures { OnOk result ((a : ℕ) → number_at self.new a
             ≡ (if a == address then number else number_at self.old a)) }
     {
         if self.is_paged(address) {
@@ -105,15 +95,16 @@ impl AddressTable {
 
     /// Sets the number that the pages have for a doubleword.
     fn set_paged(&mut self, address: u32, number: u32) -> Result<(), AllocError>
-        requires rows { HasRows self.old }
         requires doubleword { table.is_doubleword address ≡ true }
-        ensures rows { OnOk result (HasRows self.new) }
         ensures numbers { OnOk result ((a : ℕ) → table.paged_in self.new a
             ≡ (if a == address then number else table.paged_in self.old a)) }
         ensures others { OnOk result (self.new.others ≡ self.old.others) }
     {
-        let row = row_of(&mut self.pages, &mut self.rows, page_of(address))?;
-        self.rows[slot_in(row, address)] = number;
+        let (page, slot) = (page_of(address), slot_of(address));
+        reach_page(self.alloc, &mut self.pages, page)?;
+        let row = &mut self.pages[page];
+        reach_slot(row, slot)?;
+        row[slot] = number;
         Ok(())
     }
 }
@@ -132,43 +123,35 @@ fn page_of(address: u32) -> usize
     (address / PAGE) as usize
 }
 
-/// Where the number of a doubleword is, if its page has this row, counted from 0.
-fn slot_in(row: usize, address: u32) -> usize
-    requires { row * ROW < 2 ^ 63 }
-    ensures { result ≡ table.slot_in row address }
+/// Where the number of a doubleword is in the row of its page.
+fn slot_of(address: u32) -> usize
+    ensures { result ≡ table.slot_of address }
 {
-    row * ROW + (address % PAGE / 8) as usize
+    (address % PAGE / 8) as usize
 }
 
 /// Adds pages without a row until there is this one.
-fn reach_page(pages: &mut Vec<usize>, page: usize) -> Result<(), AllocError>
+fn reach_page(alloc: Global, pages: &mut Vec<Vec<u32>>, page: usize) -> Result<(), AllocError>
     requires { page < 2 ^ 32 }
     ensures page { OnOk result (page < length pages.new.items) }
-    ensures rows { OnOk result ((k : ℕ) → slice_index pages.new.items k
-        ≡ slice_index pages.old.items k) }
+    ensures rows { OnOk result (table.HaveSameNumbers pages.old.items pages.new.items) }
 {
-    if pages.len() <= page {
-        pages.resize(page + 1, 0)?;
+    for _ in pages.len()..page + 1 {
+        pages.push(Vec::new(alloc))?;
     }
     Ok(())
 }
 
-/// The row of a page, counted from 0. It is made if the page has none.
-fn row_of(pages: &mut Vec<usize>, rows: &mut Vec<u32>, page: usize) -> Result<usize, AllocError>
-    requires rows { HaveRows pages.old.items rows.old.items }
-    requires page { page < 2 ^ 32 }
-    ensures rows { OnOk result (HaveRows pages.new.items rows.new.items) }
-    ensures numbers { OnOk result (KeepsNumbers pages.old.items rows.old.items
-        pages.new.items rows.new.items) }
-    ensures row { IfOk result (λ row. slice_index pages.new.items page ≡ row + 1) }
+/// Makes a row reach a slot; the numbers that it hasn't are 0. Its length is a power of two, so that
+/// it never takes more memory than a whole row.
+fn reach_slot(row: &mut Vec<u32>, slot: usize) -> Result<(), AllocError>
+    requires { slot < 2 ^ 32 }
+    ensures slot { OnOk result (slot < length row.new.items) }
+    ensures numbers { OnOk result ((i : ℕ) → slice_index row.new.items i
+        ≡ slice_index row.old.items i) }
 {
-    reach_page(pages, page)?;
-    let row = pages[page];
-    if row > 0 {
-        return Ok(row - 1);
+    if row.len() <= slot {
+        row.resize((slot + 1).next_power_of_two(), 0)?;
     }
-    let made = rows.len() / ROW;
-    rows.extend_from_slice(&[0; ROW])?;
-    pages[page] = made + 1;
-    Ok(made)
+    Ok(())
 }

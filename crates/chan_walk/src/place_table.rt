@@ -1,7 +1,7 @@
 //! Where each place of a walk is found by its address.
 
 ghost use Rattle.std.specs.Prelude.{◌≡◌, ◌<◌, ◌^◌, ◌++◌, ◌∷◌, List, [], length, OnOk};
-ghost use Rattle.chan_walk.specs.AddressTable.{HasRows, number_at};
+ghost use Rattle.chan_walk.specs.AddressTable.{number_at};
 ghost use Rattle.chan_walk.specs.Look.{places_of_looks};
 ghost use Rattle.chan_walk.specs.PlaceTable.{FindsPlaces, IsIndexOf};
 ghost use Rattle.chan_walk.specs.declared.place.Place as places;
@@ -35,7 +35,6 @@ impl PlaceTable {
 
     /// One more than the index of the last place at an address; 0 if there is none.
     pub(crate) fn last_at(&self, address: u32) -> u32
-        requires { HasRows self.now.last }
         ensures { result ≡ number_at self.now.last address }
     {
         self.last.get(address)

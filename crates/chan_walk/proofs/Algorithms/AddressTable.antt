@@ -1,84 +1,68 @@
--- Numbers by address: a new row changes none, and what is set in a row changes one.
-use Rattle.chan_walk.proofs.Names.{ap, arith, Bool, cases_lt, false, get_or, if◌then◌else◌, inl, inr, length, length-append, List, refl, slice_index, sym, true, zero, ℕ, ◌++◌, ◌+◌, ◌-◌, ◌<◌, ◌==◌, ◌∙◌, ◌≡◌, ◌≤◌, ◌⊎◌}
-use Rattle.std.proofs.Common.{replicate, set, ◌/◌}
-use Rattle.std.proofs.lemmas.Bool.{cases_eq, ne_eqb}
-use Rattle.std.proofs.lemmas.List.{get_or-append_right, get_or-replicate, get_or-set_other, get_or-set_same, get_or_append_left, get_or_past, length-replicate}
-use Rattle.chan_walk.specs.AddressTable.{doubleword_in, HaveRows, KeepsNumbers, number_at, page_of, paged_in, slot_in}
+-- Numbers by address: what is set in a row of a page changes one.
+use Rattle.chan_walk.proofs.Names.{and_parts, ap, arith, Bool, eqb-true, false, if◌then◌else◌, inl, inr, length, List, refl, slice_get, slice_index, Some, suc, sym, true, zero, ℕ, [], ◌<◌, ◌==◌, ◌%◌, ◌∙◌, ◌∷◌, ◌≡◌, ◌⊎◌}
+use Rattle.std.proofs.Common.{nat_lt, set}
+use Rattle.std.proofs.lemmas.Bool.{cases_eq, eq-eqb, ne_eqb}
+use Rattle.std.proofs.lemmas.List.{get_or-set_other, get_or-set_same}
+use Rattle.std.specs.Global.{Vec}
+use Rattle.ccw_core.specs.declared.ccw.TheConstants.{STORAGE_LIMIT}
+use Rattle.chan_walk.specs.AddressTable.{doubleword_in, HaveSameNumbers, is_doubleword, number_at, number_in, page_of, paged_in, slot_of}
 use Rattle.chan_walk.specs.declared.address_table.AddressTable.{AddressTable}
-use Rattle.chan_walk.specs.declared.address_table.TheConstants.{ROW}
 
--- zeros at the end of a list are what is found past it
-pub zeros_after : (xs : List ℕ) (n i : ℕ) → slice_index (xs ++ replicate n 0) i ≡ slice_index xs i
-zeros_after xs n i = go (cases_lt i (length xs))
-  where
-    go : (i < length xs) ⊎ (length xs ≤ i) → slice_index (xs ++ replicate n 0) i ≡ slice_index xs i
-    go (inl l) = get_or_append_left xs (replicate n 0) 0 i l
-    go (inr g) = get_or-append_right xs (replicate n 0) (length xs) i 0 refl g ∙ zeros (cases_lt (i - length xs) n) ∙ sym (get_or_past xs i 0 g)
-      where
-        zeros : (i - length xs < n) ⊎ (n ≤ i - length xs) → get_or (replicate n 0) (i - length xs) 0 ≡ zero
-        zeros (inl l) = get_or-replicate n (i - length xs) 0 0 l
-        zeros (inr g) = get_or_past (replicate n 0) (i - length xs) 0 (omega (arith, length-replicate {A = ℕ} n 0))
+row_here : (pages : List (Vec ℕ)) (k : ℕ) (row : Vec ℕ) → k < length pages → slice_get (set pages k row) k ≡ Some row
+row_here [] k row l = absurd (omega (arith, l))
+row_here (x ∷ pages) zero row l = refl
+row_here (x ∷ pages) (suc k) row l = row_here pages k row (omega (arith, l))
 
-module _ (pages rows more_pages more_rows : List ℕ) (page made : ℕ) (h : HaveRows pages rows) (none : slice_index pages page ≡ 0)
-    (is : made ≡ length rows / ROW) (here : slice_index more_pages page ≡ made + 1)
-    (others : (k : ℕ) → (k ≡ page → ⊥) → slice_index more_pages k ≡ slice_index pages k) where
-  same : made ≡ h.count
-  same = omega (arith, is, h.whole)
+row_elsewhere : (pages : List (Vec ℕ)) (k : ℕ) (row : Vec ℕ) (page : ℕ) → (page ≡ k → ⊥) → slice_get (set pages k row) page ≡ slice_get pages page
+row_elsewhere [] k row page d = refl
+row_elsewhere (x ∷ pages) zero row zero d = absurd (d refl)
+row_elsewhere (x ∷ pages) zero row (suc page) d = refl
+row_elsewhere (x ∷ pages) (suc k) row zero d = refl
+row_elsewhere (x ∷ pages) (suc k) row (suc page) d = row_elsewhere pages k row page (λ e. d (ap suc e))
 
-  -- a row of its own for a page that had none
-  pub row_made : length more_rows ≡ length rows + ROW → HaveRows more_pages more_rows
-  row_made longer = record {
-    count = h.count + 1;
-    whole = omega (arith, longer, h.whole);
-    within = λ k. within k (cases_eq k page);
-    apart = λ k l p e. apart k l (cases_eq k page) (cases_eq l page) p e;
-  }
+-- two doublewords in one slot of a page are one
+one_slot : (a b : ℕ) → is_doubleword a ≡ true → is_doubleword b ≡ true → page_of a ≡ page_of b → slot_of a ≡ slot_of b → a ≡ b
+one_slot a b first second page slot =
+    let low = eqb-true (a % 8) 0 (and_parts (a % 8 == 0) (nat_lt a STORAGE_LIMIT) first).0 in
+    let high = eqb-true (b % 8) 0 (and_parts (b % 8 == 0) (nat_lt b STORAGE_LIMIT) second).0 in
+    omega (arith, low, high, page, slot)
+
+-- the number of a doubleword that is set in the row of its page
+module _ (old pages : List (Vec ℕ)) (address n page slot : ℕ) (row new : Vec ℕ) (is : is_doubleword address ≡ true) (at_page : page ≡ page_of address)
+    (at_slot : slot ≡ slot_of address) (below : page < length pages) (same : HaveSameNumbers old pages)
+    (kept : (i : ℕ) → slice_index row.items i ≡ number_in (slice_get pages page) i) (long : slot < length row.items)
+    (written : new.items ≡ set row.items slot n) where
+  in_page : (a : ℕ) → page_of a ≡ page → doubleword_in (set pages page new) a ≡ slice_index (set row.items slot n) (slot_of a)
+  in_page a e =
+      ap (λ p. number_in (slice_get (set pages page new) p) (slot_of a)) e ∙ ap (λ r. number_in r (slot_of a)) (row_here pages page new below)
+      ∙ ap (λ xs. slice_index xs (slot_of a)) written
+
+  elsewhere : (a : ℕ) → is_doubleword a ≡ true → (a ≡ address → ⊥) → (page_of a ≡ page) ⊎ (page_of a ≡ page → ⊥)
+      → doubleword_in (set pages page new) a ≡ doubleword_in old a
+  elsewhere a d other (inl e) =
+      in_page a e ∙ get_or-set_other row.items slot (slot_of a) n 0 (λ s. other (one_slot a address d is (e ∙ at_page) (s ∙ at_slot))) ∙ kept (slot_of a)
+      ∙ ap (λ p. number_in (slice_get pages p) (slot_of a)) (sym e) ∙ same (page_of a) (slot_of a)
+  elsewhere a d other (inr e) = ap (λ r. number_in r (slot_of a)) (row_elsewhere pages page new (page_of a) e) ∙ same (page_of a) (slot_of a)
+
+  here : doubleword_in (set pages page new) address ≡ n
+  here = in_page address (sym at_page) ∙ ap (slice_index (set row.items slot n)) (sym at_slot) ∙ get_or-set_same row.items slot n 0 long
+
+  pub number_set : (a : ℕ) → (if is_doubleword a then doubleword_in (set pages page new) a else 0)
+      ≡ (if a == address then n else if is_doubleword a then doubleword_in old a else 0)
+  number_set a = go (cases_eq a address)
     where
-      at_page : (k : ℕ) → k ≡ page → slice_index more_pages k ≡ h.count + 1
-      at_page k e = ap (slice_index more_pages) e ∙ here ∙ ap (λ n. n + 1) same
+      other : (b : Bool) → is_doubleword a ≡ b → (a ≡ address → ⊥)
+          → (if b then doubleword_in (set pages page new) a else 0) ≡ (if b then doubleword_in old a else 0)
+      other false d e = refl
+      other true d e = elsewhere a d e (cases_eq (page_of a) page)
 
-      within : (k : ℕ) → (k ≡ page) ⊎ (k ≡ page → ⊥) → slice_index more_pages k ≤ h.count + 1
-      within k (inl e) = omega (arith, at_page k e)
-      within k (inr d) = omega (arith, others k d, h.within k)
-
-      apart : (k l : ℕ) → (k ≡ page) ⊎ (k ≡ page → ⊥) → (l ≡ page) ⊎ (l ≡ page → ⊥) → 0 < slice_index more_pages k
-          → slice_index more_pages k ≡ slice_index more_pages l → k ≡ l
-      apart k l (inl d) (inl e) p s = d ∙ sym e
-      apart k l (inl d) (inr e) p s = absurd (omega (arith, at_page k d, others l e, h.within l))
-      apart k l (inr d) (inl e) p s = absurd (omega (arith, at_page l e, others k d, h.within k))
-      apart k l (inr d) (inr e) p s = h.apart k l (omega (arith, others k d, p)) (sym (others k d) ∙ s ∙ others l e)
-
-  -- changes no number
-  pub row_keeps : ((i : ℕ) → slice_index more_rows i ≡ slice_index rows i) → KeepsNumbers pages rows more_pages more_rows
-  row_keeps same_rows a = go (cases_eq (page_of a) page)
-    where
-      go : (page_of a ≡ page) ⊎ (page_of a ≡ page → ⊥) → doubleword_in more_pages more_rows a ≡ doubleword_in pages rows a
+      go : (a ≡ address) ⊎ (a ≡ address → ⊥) → (if is_doubleword a then doubleword_in (set pages page new) a else 0)
+          ≡ (if a == address then n else if is_doubleword a then doubleword_in old a else 0)
       go (inl e) =
-          let old : slice_index pages (page_of a) ≡ 0 = ap (slice_index pages) e ∙ none in
-          let new : slice_index more_pages (page_of a) ≡ made + 1 = ap (slice_index more_pages) e ∙ here in
-          let some : (made + 1 == 0) ≡ false = ne_eqb (made + 1) 0 (λ e. absurd (omega (arith, e))) in
-          rw (old, new, some) (same_rows (slot_in (made + 1 - 1) a) ∙ get_or_past rows (slot_in (made + 1 - 1) a) 0 (omega (arith, same, h.whole)))
-      go (inr d) = rw (others (page_of a) d, same_rows (slot_in (slice_index pages (page_of a) - 1) a)) refl
-
--- a page gets a row of zeros
-pub row_added : (pages reached rows more : List ℕ) (page made : ℕ) → HaveRows pages rows → ((k : ℕ) → slice_index reached k ≡ slice_index pages k)
-    → slice_index reached page ≡ 0 → page < length reached → made ≡ length rows / ROW → more ≡ rows ++ replicate ROW 0
-    → HaveRows (set reached page (made + 1)) more × KeepsNumbers pages rows (set reached page (made + 1)) more
-row_added pages reached rows more page made h kept none below is zeros = (
-  row_made pages rows (set reached page (made + 1)) more page made h old is here others
-      (ap length zeros ∙ length-append rows (replicate ROW 0) ∙ ap (λ n. length rows + n) (length-replicate {A = ℕ} ROW 0)),
-  row_keeps pages rows (set reached page (made + 1)) more page made h old is here others
-      (λ i. ap (λ xs. slice_index xs i) zeros ∙ zeros_after rows ROW i),
-)
-  where
-    old : slice_index pages page ≡ 0
-    old = sym (kept page) ∙ none
-
-    here : slice_index (set reached page (made + 1)) page ≡ made + 1
-    here = get_or-set_same reached page (made + 1) 0 below
-
-    others : (k : ℕ) → (k ≡ page → ⊥) → slice_index (set reached page (made + 1)) k ≡ slice_index pages k
-    others k d = get_or-set_other reached page k (made + 1) 0 d ∙ kept k
+          let so : (a == address) ≡ true = eq-eqb a address e in
+          let one : is_doubleword a ≡ true = ap is_doubleword e ∙ is in
+          rw (so, one) (ap (doubleword_in (set pages page new)) e ∙ here)
+      go (inr d) = let so : (a == address) ≡ false = ne_eqb a address d in rw so (other (is_doubleword a) refl d)
 
 -- what the pages have goes before the others
 pub paged_first : (t u : AddressTable) (at n : ℕ) → 0 < n → u.others ≡ t.others

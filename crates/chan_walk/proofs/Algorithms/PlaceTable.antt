@@ -8,7 +8,7 @@ use Rattle.chan_walk.proofs.Algorithms.Looking.{number_of_places}
 use Rattle.chan_walk.proofs.Algorithms.Walking.{place_there}
 use Rattle.chan_walk.proofs.Theory.Lists.{at_has, front_at, has_at, last_at, pushed, same_at, taken_at}
 use Rattle.chan_walk.specs.declared.place_table.PlaceTable.{PlaceTable}
-use Rattle.chan_walk.specs.AddressTable.{HasRows, number_at}
+use Rattle.chan_walk.specs.AddressTable.{number_at}
 use Rattle.chan_walk.specs.PlaceTable.{FindsPlaces, IsIndexOf, IsLastAt}
 
 -- ---- one place more
@@ -35,11 +35,10 @@ last_here ps q = record {
     go i p le (inl s) h = absurd (omega (arith, le, slice_get_within ps i p s))
     go i p le (inr s) h = absurd (omega (arith, le, s.0))
 
-pub finds_more : (t u : PlaceTable) (ps : List Place) (q : Place) (before : ℕ) → FindsPlaces t ps → HasRows u.last
+pub finds_more : (t u : PlaceTable) (ps : List Place) (q : Place) (before : ℕ) → FindsPlaces t ps
     → before ≡ number_at t.last q.address → u.before.items ≡ t.before.items ++ before ∷ []
     → ((a : ℕ) → number_at u.last a ≡ (if a == q.address then length ps + 1 else number_at t.last a)) → FindsPlaces u (ps ++ q ∷ [])
-finds_more t u ps q before f rows is more numbers = record {
-  rows = rows;
+finds_more t u ps q before f is more numbers = record {
   each = ap length more ∙ omega (arith, length-append t.before.items (before ∷ []), length-append ps (q ∷ []), f.each);
   last = λ a. subst (IsLastAt (ps ++ q ∷ []) a) (sym (numbers a)) (last a (cases_eq a q.address));
   before = λ i p s. subst (λ xs. IsLastAt (take i (ps ++ q ∷ [])) p.address (slice_index xs i)) (sym more) (old i p (pushed ps q p i s));

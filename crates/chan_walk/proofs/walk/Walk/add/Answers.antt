@@ -1,7 +1,8 @@
-use Rattle.chan_walk.proofs.Names.{AddsPlace, arith, Has, inl, inr, is_some, length, length-map, List, None, Option, Place, place_of, places_of_looks, refl, Some, subst, sym, false, ℕ, ◌<◌, ◌≡◌}
+use Rattle.chan_walk.proofs.Names.{AddsPlace, arith, Has, inl, inr, is_some, length, length-map, List, None, Option, Place, place_of, places_of_looks, refl, Some, subst, sym, false, ℕ, ◌<◌, ◌≡◌, ◌≤◌}
 use Rattle.chan_walk.proofs.Algorithms.Looking.{looks_push, places_push}
 use Rattle.chan_walk.proofs.Algorithms.PlaceTable.{index_has}
 use Rattle.chan_walk.specs.PlaceTable.{FindsPlaces, IsIndexOf}
+use Rattle.chan_walk.specs.Walk.{HasNoRoomFor}
 use Rattle.chan_walk.proofs.walk.Walk.add.Goals as goal
 
 pub returns-in_ok-push-3-clause-looks : goal.returns-in_ok-push-3-clause-looks
@@ -20,6 +21,16 @@ returns-else-is_none-clause-ok c =
 no_place : (ps : List Place) (p : Place) (o : Option ℕ) → IsIndexOf ps p o → is_some o ≡ false → Has ps p → ⊥
 no_place ps p None is none h = is h
 no_place ps p (Some k) is none h = absurd (cc)
+
+pub returns-then-len-get-clause-many : goal.returns-then-len-get-clause-many
+returns-then-len-get-clause-many c e =
+    let s = c.args.self.now in
+    let p = c.in-Some.place in
+    let is = subst (λ ls. IsIndexOf (places_of_looks ls) p c.index_from-found.result) c.as_slice.ensures.value c.index_from-found.ensures in
+    let many : c.args.job.now.limit ≤ length (places_of_looks s.looks.items) =
+    omega (arith, length-map s.looks.items place_of, c.if-len-get.true, c.len.ensures, c.get.ensures.value, c.get.ensures.limit) in
+    subst (λ (o : Option Place). HasNoRoomFor c.args.job.now.limit o (places_of_looks s.looks.items)) (sym c.in-Some.is)
+    (no_place (places_of_looks s.looks.items) p c.index_from-found.result is c.if-is_none.ensures, many)
 
 pub returns-in_ok-push-3-clause-ok : goal.returns-in_ok-push-3-clause-ok
 returns-in_ok-push-3-clause-ok c =
