@@ -101,8 +101,18 @@ module _ (a b : Situation) (sound : Sound a) where
         );
       }
 
-  stays : b.storage ≡ a.storage → (P : ℕ → Type 0) → IsSameIn P a.storage b.storage
+  pub stays : b.storage ≡ a.storage → (P : ℕ → Type 0) → IsSameIn P a.storage b.storage
   stays e P = subst (IsSameIn P a.storage) (sym e) (record { same_length = refl; same = λ z u. refl })
+
+  -- what one does leaves the bytes as they were that it never stores over
+  pub acts_apart : (i : ℕ) (x y : Option Flight) → a.at i ≡ x → b.at i ≡ y → ProgramActs a b x y → (P : ℕ → Type 0)
+      → ((f : Flight) → x ≡ Some f → MayStoreOver f.job P → ⊥) → IsSameIn P a.storage b.storage
+  acts_apart i None None d e w P never = absurd w
+  acts_apart i None (Some g) d e w P never = stays w.1 P
+  acts_apart i (Some f) None d e w P never = stays w P
+  acts_apart i (Some f) (Some g) d e w P never =
+      let kept = sound.kept i f d in
+      seen f.job kept.verdict P (never f refl) f.moment g.moment kept.before kept.spared w.1 a.storage b.storage (sym (a.shared i f d)) (sym (b.shared i g e))
 
   -- one acts, at i
   acts : (i : ℕ) (x y : Option Flight) → a.at i ≡ x → b.at i ≡ y → ProgramActs a b x y → ((k : ℕ) → (k ≡ i) ⊎ ProgramWaits (a.at k) (b.at k)) → OneMayStart a b
@@ -120,10 +130,7 @@ module _ (a b : Situation) (sound : Sound a) where
   acts i (Some f) (Some g) d e w r = record { new = None; may = λ h z. absurd cc; each = λ k h z. inr (each k h z (r k)) }
     where
       spared : (k : ℕ) (h : Flight) → a.at k ≡ Some h → IsSameIn (IsGuarded h.job) a.storage b.storage
-      spared k h z =
-          let kept = sound.kept i f d in
-          seen f.job kept.verdict (IsGuarded h.job) (sound.compatible i k f h d z) f.moment g.moment
-          kept.before kept.spared w.1 a.storage b.storage (sym (a.shared i f d)) (sym (b.shared i g e))
+      spared k h z = acts_apart i (Some f) (Some g) d e w (IsGuarded h.job) (λ q same. sound.compatible i k q h (d ∙ same) z)
 
       each : (k : ℕ) (h : Flight) → b.at k ≡ Some h → (k ≡ i) ⊎ ProgramWaits (a.at k) (b.at k) → Was a k h
       each k h z (inl q) =

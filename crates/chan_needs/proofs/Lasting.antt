@@ -1,20 +1,13 @@
--- A write that lasts: while it is in the table, no program starts that keeps a byte of its area.
-use Rattle.chan_needs.proofs.Names.{[], All, All-cons, All-head, All-nil, All-tail, Area, both_ways, Flight, Has, inl, inr, IsCompatibleWith, IsSome, KeepsNone, List, None, Option, ProgramStartsAt, ProgramWaits, ProgramWaitsAt, refl, Remembered, Some, subst, Supervision, sym, true, false, rules, ℕ, ◌∙◌, ◌∷◌, ◌≡◌, ◌⊎◌}
-use Rattle.ccw_core.specs.Areas.{lies_in}
-use Rattle.chan_areas.proofs.Merging.{lies_in-first}
-use Rattle.ccw_core.proofs.Covering.{lies_in-nil}
-use Rattle.chan_needs.specs.Remembered.{IsKeeperOf}
-use Rattle.chan_needs.specs.Supervised.{GoesOnBeside, IsLastingWrite, IsSparedBy, LastingWrites, ListsRemembered}
-use Rattle.chan_needs.proofs.Remembering.{at_number}
+-- Rows that stay in the table. While a write that lasts is there, no program starts that keeps a byte of its area; while bytes that last
+-- are there, none that stores over them, and no step changes them.
+use Rattle.chan_needs.proofs.Names.{[], All, All-cons, All-head, All-nil, All-tail, Area, AreOfOneProgram, both_ways, false, Flight, Has, inl, inr, IsByteOf, IsCompatibleWith, IsSameIn, IsSome, IsSupervised, KeepsNone, lies_in, lies_in-first, lies_in-nil, List, MayStoreOver, None, Option, ProgramStartsAt, ProgramWaits, ProgramWaitsAt, refl, Remembered, rules, Some, subst, Supervision, sym, true, ℕ, ◌∙◌, ◌∷◌, ◌≡◌, ◌⊎◌}
+use Rattle.chan_needs.specs.Supervised.{GoesOnBeside, IsLastingKeep, IsLastingWrite, IsSparedBy, IsUntouchedBy, LastingKeeps, LastingWrites}
+use Rattle.chan_needs.proofs.Compatible.{needed_over}
+use Rattle.chan_needs.proofs.History.{acts_apart, all_sound, stays}
+use Rattle.chan_needs.proofs.Remembering.{at_number, needs_in_flight}
+use Rattle.chan_needs.proofs.Supervising.{IsNoted, situations, supervised}
 
-none_kept : (f : Remembered) (area : Area) → IsLastingWrite area f → KeepsNone area f
-none_kept f area write b k = both_ways _ (write.keeps b) k.0
-
--- a program beside the write keeps no byte of the area
-compatible_keeps_none : (f p : Remembered) (area : Area) → IsLastingWrite area f → IsCompatibleWith p f → KeepsNone area p
-compatible_keeps_none f p area write compatible b k = compatible.other_spares b (write.stores b k.1, k.0)
-
-pub of_all : {X : Type 0} (P : X → Type 0) (xs : List X) (x : X) → All P xs → Has xs x → P x
+of_all : {X : Type 0} (P : X → Type 0) (xs : List X) (x : X) → All P xs → Has xs x → P x
 of_all P [] x all h = absurd h
 of_all P (y ∷ xs) x all (inl e) = subst P e (All-head P y xs all)
 of_all P (y ∷ xs) x all (inr h) = of_all P xs x (All-tail P y xs all) h
@@ -44,25 +37,24 @@ module _ (P : Remembered → Type 0) (f : Remembered) (v w : Supervision) (besid
   each i p noted some k here (inr r) = rests i p r some noted
   each i p noted some k here (inl e) = here (subst (λ n. w.programs n ≡ Some p) e noted) (subst (λ n. IsSome (w.situation.at n)) e some)
 
-  pub stays_beside : GoesOnBeside f v w → (i : ℕ) (p : Remembered) → IsSome (w.situation.at i) → w.programs i ≡ Some p → P p
+  stays_beside : GoesOnBeside f v w → (i : ℕ) (p : Remembered) → IsSome (w.situation.at i) → w.programs i ≡ Some p → P p
   stays_beside (inl (k, inl s, others)) i p some noted = each i p noted some k (λ e there. started k p s.0 s.1 e) (others i)
   stays_beside (inl (k, inr s, others)) i p some noted = each i p noted some k (λ e there. before k p s.there (sym (s.noted there) ∙ e)) (others i)
   stays_beside (inr r) i p some noted = rests i p (r.2 i) some noted
 
-stands : (f : Remembered) (area : Area) → f.needs.store.now ≡ area ∷ [] → f.needs.keep.now ≡ [] → IsLastingWrite area f
-stands f area store keep = record {
-  stores = λ b h. subst (λ (xs : List Area). lies_in xs b ≡ true) (sym store) (search (rules, lies_in-first, h));
-  keeps = λ b. subst (λ (xs : List Area). lies_in xs b ≡ false) (sym keep) (lies_in-nil b);
-}
+-- ---- a row with one area alone
 
-begins : (area : Area) (v : Supervision) (fs : List Remembered) → ListsRemembered v.programs fs → IsKeeperOf fs area None → IsSparedBy area v
-begins area v fs lists none i p some noted = let n = lists i p noted in at_number (KeepsNone area) fs n.0 p none n.1
+one_area : (xs : List Area) (area : Area) → xs ≡ area ∷ [] → (b : ℕ) → IsByteOf area b → lies_in xs b ≡ true
+one_area xs area e b h = rw e (lies_in-first area [] b h)
+
+no_area : (xs : List Area) → xs ≡ [] → (b : ℕ) → lies_in xs b ≡ false
+no_area xs e b = rw e (lies_in-nil b)
 
 pub lasting_writes : LastingWrites
 lasting_writes = record {
-  stands = stands;
-  begins = begins;
-  stays = λ f area v w write spared goes. stays_beside (KeepsNone area) f v w (λ p h. compatible_keeps_none f p area write h) spared goes;
+  stands = λ f area store keep. record { stores = one_area _ area store; keeps = no_area _ keep };
+  begins = λ area v fs lists none i p some noted. let n = lists i p noted in at_number (KeepsNone area) fs n.0 p none n.1;
+  stays = λ f area v w write. stays_beside (KeepsNone area) f v w (λ p h b k. h.other_spares b (write.stores b k.1, k.0));
   may_write = λ f area v fs t write spared lists only written.
       let none : (g : Remembered) → Has fs g → KeepsNone area g = λ g h. spares f area v g write spared (only g h) in
       record { area = area; in_flight = fs; lists = lists; answer = to_all (KeepsNone area) fs none; written = written };
@@ -70,5 +62,43 @@ lasting_writes = record {
   where
     spares : (f : Remembered) (area : Area) (v : Supervision) (g : Remembered) → IsLastingWrite area f
         → IsSparedBy area v → (g ≡ f) ⊎ ((i : ℕ) × IsSome (v.situation.at i) × (v.programs i ≡ Some g)) → KeepsNone area g
-    spares f area v g write spared (inl e) = subst (KeepsNone area) (sym e) (none_kept f area write)
+    spares f area v g write spared (inl e) = subst (KeepsNone area) (sym e) (λ b k. both_ways _ (write.keeps b) k.0)
     spares f area v g write spared (inr at) = spared at.0 g at.1 at.2
+
+-- ---- bytes that no step changes
+
+-- the program stores over no byte of the area, by its list
+abbrev StoresNone : Area → Remembered → Type 0
+StoresNone area p = (b : ℕ) → lies_in p.needs.store.now b ≡ true → IsByteOf area b → ⊥
+
+module _ (f : Remembered) (area : Area) (v w : Supervision) (keep : IsLastingKeep area f) (untouched : IsUntouchedBy area v) where
+  -- a program in flight stores over no byte of the area
+  never_over : (i : ℕ) (g : Flight) → v.situation.at i ≡ Some g → IsNoted v i g → MayStoreOver g.job (IsByteOf area) → ⊥
+  never_over i g e (p, noted, flight) may =
+      let itself : AreOfOneProgram g.job g.job = record { storage = refl; start = refl; device = refl } in
+      let n = needed_over g.job g.job itself flight.proper flight.verdict (IsByteOf area) may in
+      untouched i p (subst IsSome (sym e) refl) noted n.0 (((needs_in_flight p g.job flight).store.bytes n.0).1 n.1) n.2
+
+  same : (before : List Supervision) → IsSupervised (v ∷ before) → GoesOnBeside f v w
+      → IsSameIn (IsByteOf area) v.situation.storage w.situation.storage
+  same before run (inl (i, s, others)) =
+      let t = supervised v before run in
+      let sound = (all_sound (v.situation ∷ situations before) t.0).0 in
+      elim s [
+        | inl starts ↦ stays v.situation w.situation sound starts.0.storage (IsByteOf area)
+        | inr goes ↦ acts_apart v.situation w.situation sound i _ _ refl refl goes.acts (IsByteOf area) (λ g e. never_over i g e (t.1 i g e))
+      ]
+  same before run (inr r) = record {
+    same_length = r.0.written.same_length;
+    same = λ b within. r.0.written.same b (λ inside. of_all (KeepsNone r.0.area) r.0.in_flight f r.0.answer r.1 b (keep.keeps b within, inside));
+  }
+
+pub lasting_keeps : LastingKeeps
+lasting_keeps = record {
+  stands = λ f area keep store. record { keeps = one_area _ area keep; stores = no_area _ store };
+  begins = λ f area v fs keep lists all i p some noted b stored within.
+      let n = lists i p noted in (at_number (IsCompatibleWith f) fs n.0 p all n.1).other_spares b (stored, keep.keeps b within);
+  goes_on = λ f v w goes. search rules;
+  stays = λ f area v w keep. stays_beside (StoresNone area) f v w (λ p h b stored within. h.one_spares b (stored, keep.keeps b within));
+  same = λ f area v w before keep run untouched goes. same f area v w keep untouched before run goes;
+}

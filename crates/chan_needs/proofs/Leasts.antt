@@ -1,10 +1,11 @@
 -- The least byte or cylinder of lists for which something holds, element by element.
-use Rattle.chan_needs.proofs.Names.{[], and_from, and_parts, Area, AreExactly, arith, BeginAbove, both_ways, cases_lt, drop, end_of, Extent, false, get_or, has_cylinder, inl, inr, IsByteOf, IsLeastOrNone, IsMerged, le-leb, least_same, leb-true, length, lesser_of, lies_in, lies_in-cases, lies_in-first, lies_in-nil, List, map, map-append, nat_le, None, Option, or_cases, or_left, or_right, pair, rules, Some, subst, suc, sym, take, take_all, take_more, true, zero, ℕ, ◌&&◌, ◌++◌, ◌+◌, ◌<◌, ◌↔◌, ◌∷◌, ◌≡◌, ◌≤◌, ◌⊎◌}
+use Rattle.chan_needs.proofs.Names.{[], and_from, and_parts, Area, AreExactly, arith, both_ways, cases_lt, end_of, Extent, false, get_or, has_cylinder, inl, inr, IsByteOf, IsLeastOrNone, IsMerged, le-leb, least_same, leb-true, length, lesser_of, lies_in, lies_in-cases, lies_in-first, lies_in-nil, List, map, map-append, nat_le, None, Option, or_cases, or_left, or_right, pair, refl, rules, Some, subst, sym, take, take_all, take_more, true, ℕ, ◌&&◌, ◌++◌, ◌+◌, ◌<◌, ◌↔◌, ◌∷◌, ◌≡◌, ◌≤◌, ◌⊎◌}
 use Rattle.std.proofs.Common.{◌||◌}
 use Rattle.std.proofs.lemmas.Bool.{false_from_ne_true}
 use Rattle.std.proofs.lemmas.List.Folds.{list_any-append}
 use Rattle.chan_needs.proofs.Holding.{nowhere}
-use Rattle.chan_areas.proofs.Merging.{lies_in-append}
+use Rattle.chan_areas.specs.Merged.{AreRuns}
+use Rattle.chan_areas.proofs.Merging.{lies_in-append, runs_first, runs_later, runs_push}
 use Rattle.chan_areas.proofs.Searching.{merged_order}
 
 -- ---- the lesser of two leasts
@@ -87,37 +88,27 @@ pub least_in_runs : (xs : List Extent) (i : ℕ) (P : ℕ → Type 0) (o : Optio
     → IsLeastOrNone (λ n. (has_cylinder (map pair (take i xs)) n ≡ true) × P n) o → IsLeastOrNone (λ n. (has_cylinder (map pair xs) n ≡ true) × P n) o
 least_in_runs xs i P o l = subst (λ (ys : List Extent). IsLeastOrNone (λ n. (has_cylinder (map pair ys) n ≡ true) × P n) o) (take_all i xs l)
 
--- ---- merged from an area on
+-- ---- merged so far
 
-begin_above : (n : ℕ) (xs : List Area) → (0 < length xs → n < (get_or xs 0 nowhere).start) → IsMerged xs → BeginAbove n xs
-begin_above n [] h m = tt
-begin_above n (x ∷ []) h m = (h (omega arith), tt)
-begin_above n (x ∷ y ∷ xs) h m = let l = h (omega arith) in let k = m.1.0 in (l, begin_above n (y ∷ xs) (λ z. omega arith) m.2)
-
-pub merged_from : (xs : List Area) (i : ℕ) → i < length xs → 0 < (get_or xs i nowhere).len
-    → (suc i < length xs → end_of (get_or xs i nowhere) < (get_or xs (suc i) nowhere).start) → IsMerged (drop (suc i) xs) → IsMerged (drop i xs)
-merged_from [] i l f a m = absurd (omega arith)
-merged_from (x ∷ xs) zero l f a m = (f, begin_above (end_of x) xs (λ k. a (omega arith)) m, m)
-merged_from (x ∷ xs) (suc i) l f a m = merged_from xs i (omega arith) f (λ k. a (omega arith)) m
-
--- all areas are merged exactly if those from i on are, and the first of these begins at n or above
-pub record MayGoOn (xs : List Area) (i n : ℕ) : Type 0 where
-  pub joins : IsMerged (drop i xs) → (i < length xs → n ≤ (get_or xs i nowhere).start) → IsMerged xs
+-- the areas before i are merged and end before n; if all areas are merged, area i begins at n or above
+pub record AreMergedBefore (xs : List Area) (i n : ℕ) : Type 0 where
+  pub runs : AreRuns (take i xs) (record { start = n; len = 0 })
   pub begins : IsMerged xs → i < length xs → n ≤ (get_or xs i nowhere).start
 
-pub go_on_first : (xs : List Area) → MayGoOn xs 0 0
-go_on_first xs = record { joins = λ m h. m; begins = λ m l. omega arith }
+pub merged_first : (xs : List Area) → AreMergedBefore xs 0 0
+merged_first xs = record { runs = runs_first [] _ refl; begins = λ m l. omega arith }
 
-pub go_on_next : (xs : List Area) (i n m : ℕ) → i < length xs → 0 < (get_or xs i nowhere).len → n ≤ (get_or xs i nowhere).start
-    → m ≡ end_of (get_or xs i nowhere) + 1 → MayGoOn xs i n → MayGoOn xs (i + 1) m
-go_on_next xs i n m l filled begun e h = record {
-  joins = λ rest next. h.joins
-      (merged_from xs i l filled (λ k. grind (arith, next)) (subst (λ (k : ℕ). IsMerged (drop k xs)) one rest)) (λ k. begun);
+pub merged_next : (xs : List Area) (i n m : ℕ) → i < length xs → 0 < (get_or xs i nowhere).len → n ≤ (get_or xs i nowhere).start
+    → m ≡ end_of (get_or xs i nowhere) + 1 → AreMergedBefore xs i n → AreMergedBefore xs (i + 1) m
+merged_next xs i n m l filled begun e h = record {
+  runs = runs_push _ _ (get_or xs i nowhere) _ (take_more xs i nowhere l) filled (omega arith) (runs_later _ _ _ begun h.runs);
   begins = λ all k. let f = merged_order xs i (i + 1) nowhere all (omega arith) k in omega arith;
 }
-  where
-    one : i + 1 ≡ suc i
-    one = omega arith
+
+pub merged_all : (xs : List Area) (i n : ℕ) → length xs ≤ i → AreMergedBefore xs i n → IsMerged xs
+merged_all xs i n l h = subst IsMerged (take_all i xs l) h.runs.merged
+
+pub ruleset merged_rules = (merged_first, merged_all)
 
 -- ---- what was lent, as far as it lies in storage
 

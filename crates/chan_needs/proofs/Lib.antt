@@ -22,5 +22,4 @@ pub mod Possible
 pub mod Naming
 pub mod Staying
 pub mod Lasting
-pub mod LastingKeeps
 pub mod Answering

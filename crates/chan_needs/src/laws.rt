@@ -122,12 +122,14 @@ pub(crate) fn others_may_change()
 {}
 
 /// When others have written, storage holds exactly what they wrote.
+#[tactic(auto, using(crate::proofs::Naming::goes_on_to_storage))]
 pub(crate) fn goes_on_to_storage()
     ensures { GoesOnToStorage }
 {}
 
 /// Answers name the first program that keeps a byte, its least such byte, and the first byte that
 /// has changed, and nothing else.
+#[tactic(auto, using(crate::proofs::Naming::named_is_first))]
 pub(crate) fn named_is_first()
     ensures { NamedIsFirst }
 {}
@@ -168,13 +170,14 @@ pub(crate) fn supervised_goes_on()
 
 /// While a write that lasts is in the table, no program that keeps a byte of its area starts; so
 /// others may write into the area at each moment.
+#[tactic(auto, using(crate::proofs::Lasting::lasting_writes))]
 pub(crate) fn lasting_writes()
     ensures { LastingWrites }
 {}
 
 /// While bytes that last are in the table, no program that stores over their area starts, and each
 /// step of supervision leaves them as they were.
-#[tactic(auto, using(crate::proofs::LastingKeeps::lasting_keeps))]
+#[tactic(auto, using(crate::proofs::Lasting::lasting_keeps))]
 pub(crate) fn lasting_keeps()
     ensures { LastingKeeps }
 {}
@@ -203,6 +206,7 @@ pub(crate) fn held_stays_true()
 
 /// The answer of `may_start` is the same over every storage of the same length with the same kept
 /// bytes: a yes survives each write to other bytes.
+#[tactic(auto, using(crate::proofs::Staying::answer_stays))]
 pub(crate) fn answer_stays()
     ensures { AnswerStays }
 {}

@@ -98,6 +98,7 @@ fn skip_ended(areas: &[Area], from: usize, address: u32) -> usize
 
 /// The least byte of the areas that lies past storage of this length or in no lent area. It costs a
 /// sort of the lent areas, and a binary search for each of the other areas.
+#[tactic(auto, using(crate::proofs::Leasts::least_clipped))]
 pub(crate) fn least_unlent(
     alloc: Global,
     areas: &[Area],
@@ -186,6 +187,7 @@ fn outside(first: u16, last: u16, extents: &Extents) -> Option<u16>
 }
 
 /// Whether a list is merged: no area is empty, areas rise, and at least one byte lies between two.
+#[tactic(auto, using(crate::proofs::Leasts::merged_rules))]
 fn are_merged(areas: &[Area]) -> bool
     ensures { IsTrue result ↔ IsMerged areas.now }
 {

@@ -1,6 +1,5 @@
 pub mod Refusals
 pub mod Written
-pub mod Beginnings
 pub mod Jobs
 pub mod Copies
 pub mod Quiet

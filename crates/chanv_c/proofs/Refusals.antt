@@ -6,9 +6,11 @@ use Rattle.chanv_c.specs.declared.refusal.JobFault.{JobFault}
 use Rattle.chanv_c.specs.declared.refusal.JobFault.TheVariants.{StorageTooLarge, NotADevice, NotAMask, NoExtent, ExtentBackwards, ExtentPastDevice, NotALimit}
 use Rattle.chanv_c.specs.declared.refusal.Refusal.{Refusal}
 use Rattle.chanv_c.specs.declared.refusal.Refusal.TheVariants.{TooManyPlaces, Memory, Wrong}
-use Rattle.chanv_c.specs.Answers.{IsAnswerCode, IsRefusal, refusal_after, refusal_code, refusal_extent}
+use Rattle.chanv_c.specs.Answers.{HasTooMany, IsAnswerCode, IsRefusal, refusal_after, refusal_code, refusal_extent}
 use Rattle.chanv_c.specs.Faults.{HasJobFault, HasNoFault, RightHasNoFault, fault_code}
-use Rattle.chanv_c.specs.Job.{extents_asked}
+use Rattle.chanv_c.specs.Job.{IsAskedJob, extents_asked}
+use Rattle.chan_walk.specs.declared.job.Job.{Job}
+use Rattle.chan_walk.specs.Places.{HasMoreThan}
 use Rattle.ckd_core.specs.Extents.{AreExtents, IsExtent}
 use Rattle.ckd_core.specs.Mask.{is_mask}
 use Rattle.std.specs.List.{AllByRecursion, slice_get}
@@ -48,6 +50,12 @@ pub walk_refused : {T : Type 0} (crowded : Type 0) (c : CJob) (e : WalkError) (r
     → (e ≡ walk.TooManyPlaces → crowded) → IsErrAnd r (λ y. y ≡ refusal_after e) → IfErr r (IsRefusal crowded c)
 walk_refused crowded c e r right many is = let p = err_from_is_err_and r is in rw (p.1, p.2) (walk_refusal crowded c e right many)
 
+-- a walk over the job that C asks about
+pub asked_refused : {T : Type 0} (c : CJob) (job : Job) (e : WalkError) (r : Result T Refusal) → IsAskedJob c job → HasNoFault c
+    → (e ≡ walk.TooManyPlaces → HasMoreThan job job.limit) → IsErrAnd r (λ y. y ≡ refusal_after e) → IfErr r (IsRefusal (HasTooMany c) c)
+asked_refused c job e r asked right many =
+    walk_refused (HasTooMany c) c e r right (λ is. record { job = job; asked = asked; many = subst (HasMoreThan job) asked.limit (many is) })
+
 -- a refusal's number says why there is no answer
 pub refusal_number : (crowded : Type 0) (c : CJob) (r : Refusal) → IsRefusal crowded c r
     → IsAnswerCode crowded c (refusal_code r) (refusal_extent r)
@@ -79,6 +87,12 @@ refusal_number crowded c (Wrong f) is =
 pub needs_number : (crowded : Type 0) (c : CJob) (n extent : ℕ) → HasNoFault c → n ≢ codes.CHANGED_MEANWHILE
     → (n ≡ codes.YES) ⊎ (n ≡ codes.MEMORY) ⊎ (n ≡ codes.NO_ROOM) ⊎ (n ≡ codes.CHANGED_MEANWHILE) → IsAnswerCode crowded c n extent
 needs_number crowded c n extent right quiet code = search (rules, right, quiet, code)
+
+-- under a job without a fault only memory can be refused
+pub only_memory : (c : CJob) (r : Refusal) → IsRefusal ⊥ c r → HasNoFault c → refusal_code r ≡ 3
+only_memory c TooManyPlaces is right = absurd is.0
+only_memory c Memory is right = refl
+only_memory c (Wrong f) is right = absurd (right f is.applies)
 
 -- ---- a job within all bounds
 

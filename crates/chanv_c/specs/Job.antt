@@ -52,8 +52,8 @@ pub record AskedIsOne : Type 0 where
 
 -- what was made ready is what C named
 pub record IsReadyJob (c : CJob) (r : ReadyJob) : Type 0 where
-  pub storage : bytes_held r.parts.storage ≡ c.storage.now
-  pub device : device_number r.parts.device ≡ c.device
-  pub mask : r.parts.mask ≡ c.mask
+  pub storage : bytes_held r.storage ≡ c.storage.now
+  pub device : device_number r.device ≡ c.device
+  pub mask : r.mask ≡ c.mask
   pub extents : r.extents ≡ extents_asked c
   pub limit : r.limit ≡ c.limit

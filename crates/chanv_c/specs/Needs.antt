@@ -1,6 +1,7 @@
 -- What the needs that C is told promise.
 use Rattle.std.specs.Prelude.{◌≡◌, ◌≢◌, ℕ, ◌+◌, ◌≤◌, ◌&&◌, nat_le, List, [], ◌∷◌, ◌++◌, drop}
 use Rattle.std.specs.Prelude.{length, if◌then◌else◌, map, Option, None, Some, take, ◌⊎◌}
+use Rattle.std.specs.Option.{unwrap_or}
 use Rattle.ccw_core.specs.declared.areas.Area.{Area}
 use Rattle.chan_walk.specs.declared.job.Job.{Job}
 use Rattle.chan_walk.specs.declared.place.Place.{Place}
@@ -88,11 +89,12 @@ without_needs v = record {
   unused = 0 ∷ 0 ∷ 0 ∷ [];
 }
 
--- 1 if there is such a place, its address, and how it is entered
-abbrev pub hang_number : Option Place → ℕ
-hang_number None = 0
-hang_number (Some p) = 1
+-- 1 if there is such a place or CCW
+abbrev pub is_there : {X : Type 0} → Option X → ℕ
+is_there None = 0
+is_there (Some x) = 1
 
+-- the address of such a place, and how it is entered
 abbrev pub hang_address : Option Place → ℕ
 hang_address None = 0
 hang_address (Some p) = p.address
@@ -101,20 +103,10 @@ abbrev pub hang_entry : Option Place → ℕ
 hang_entry None = 0
 hang_entry (Some p) = entry_number p.entered
 
--- 1 if there is an address, and the address, or 0
-abbrev pub is_there : Option ℕ → ℕ
-is_there None = 0
-is_there (Some a) = 1
-
-abbrev pub address_or_zero : Option ℕ → ℕ
-address_or_zero None = 0
-address_or_zero (Some a) = a
-
 -- how long each list is, how many bytes are kept, how long storage is, the mask, and what the
 -- program may do
 abbrev pub needs_for_c : Listed → Remarks → CNeeded
-needs_for_c n r = record {
-  verdict = verdict_for_c Yes;
+needs_for_c n r = record (without_needs (verdict_for_c Yes)) {
   extent_count = length n.extents;
   fetch_count = length n.fetch;
   store_count = length n.store;
@@ -122,14 +114,13 @@ needs_for_c n r = record {
   kept_len = total_len n.keep;
   storage_len = n.storage_len;
   hangs_at = hang_address r.hangs;
-  interrupts_at = address_or_zero r.interrupts;
-  ends_chaining_at = address_or_zero r.ends_chaining;
+  interrupts_at = unwrap_or r.interrupts 0;
+  ends_chaining_at = unwrap_or r.ends_chaining 0;
   mask = n.mask;
-  may_hang = hang_number r.hangs;
+  may_hang = is_there r.hangs;
   interrupts = is_there r.interrupts;
   ends_chaining = is_there r.ends_chaining;
   hangs_entered = hang_entry r.hangs;
-  unused = 0 ∷ 0 ∷ 0 ∷ [];
 }
 
 -- some job will do, and this is told of what the program needs

@@ -122,13 +122,6 @@ fn outside_values(outside: Outside, values: CEvidence) -> CEvidence
     }
 }
 
-/// 0 for a seek, which has an argument, and 1 for a Set File Mask.
-fn set_mask_number(argument: Option<GivenBytes>) -> u32
-    ensures { result ≡ specs.set_mask_number argument }
-{
-    u32::from(argument.is_none())
-}
-
 /// The values of a cause about a data range.
 fn range_values(range: Area, gap: Area, storage_len: u32, address: u32) -> CEvidence
     ensures { result ≡ record specs.no_values {
@@ -190,7 +183,7 @@ fn values_of(evidence: Evidence) -> CEvidence
             range: data,
             address: byte,
             taker,
-            sets_mask: set_mask_number(argument),
+            sets_mask: u32::from(argument.is_none()),
             ..argument_values(argument)
         },
         Evidence::WeakensMask { byte, mask } => CEvidence {

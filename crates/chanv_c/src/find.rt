@@ -1,6 +1,6 @@
 //! Which channel programs are in storage.
 
-ghost use Rattle.std.specs.Prelude.{◌≡◌, ◌≢◌, ◌<◌, ◌≤◌, ◌^◌, ◌⊎◌, length};
+ghost use Rattle.std.specs.Prelude.{◌≡◌, ◌≢◌, ◌<◌, ◌≤◌, ◌⊎◌, length};
 ghost use Rattle.chanv_c.specs.Find.{AreFoundIn, HasPrograms};
 ghost use Rattle.ccw_core.specs.declared.ccw.TheConstants.{STORAGE_LIMIT};
 ghost use Rattle.chanv_c.specs.declared.codes.TheConstants.{MEMORY, NO_ROOM, NOT_A_DEVICE, YES};

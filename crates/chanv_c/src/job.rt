@@ -1,19 +1,17 @@
 //! What C asks, and how it becomes a job.
 
-ghost use Rattle.std.specs.Prelude.{◌≡◌, ◌≢◌, [], map, IfOk, IfErr, OnOk, MatchOption};
-ghost use Rattle.ccw_core.specs.Held.{bytes_held};
+ghost use Rattle.std.specs.Prelude.{◌≡◌, ◌≢◌, IfOk, IfErr, OnOk, MatchOption};
 ghost use Rattle.chanv_c.specs.Answers.{IsRefusal};
 ghost use Rattle.chan_needs.specs.Remembered.{device_number};
-ghost use Rattle.chan_needs.specs.Listed.{pair};
 ghost use Rattle.chanv_c.specs.Job.{IsAskedJob, IsReadyJob, extents_asked};
-ghost use Rattle.chanv_c.specs.Faults.{HasNoFault, HasNoFaultBelow, IsFirstFault};
+ghost use Rattle.chanv_c.specs.Faults.{HasNoFault, HasNoFaultBelow};
 
 use crate::refusal::{JobFault, Refusal};
 use ccw_core::{Area, Storage};
 use chan_needs::{Extent, or_empty, pairs_of};
 use chan_walk::{Job, Limit};
 use ckd_core::{Device, ExtentError, Extents, FileMask};
-use std::alloc::{AllocError, Global};
+use std::alloc::Global;
 
 /// `struct chanv_job`. A slice is a pointer and then a length. If the length is 0, the pointer may
 /// be null, and no code looks at it.
@@ -30,14 +28,6 @@ pub struct CJob<'a> {
     pub mask: u8,
 }
 
-/// The storage, the device and the mask that C names. Storage is borrowed.
-#[derive(Clone, Copy)]
-struct JobParts<'a> {
-    storage: Storage<'a>,
-    device: Device,
-    mask: FileMask,
-}
-
 /// The device with this number.
 pub(crate) fn numbered_device(number: u16) -> Option<Device>
     ensures { MatchOption result
@@ -49,30 +39,6 @@ pub(crate) fn numbered_device(number: u16) -> Option<Device>
         2314 => Some(Device::D2314),
         _ => None,
     }
-}
-
-/// The storage, the device and the mask, or the first fault of them.
-fn parts_of<'a>(asked: &CJob<'a>) -> Result<JobParts<'a>, JobFault>
-    ensures storage { IfOk result (λ parts. bytes_held parts.storage ≡ asked.now.storage.now) }
-    ensures device { IfOk result (λ parts. device_number parts.device ≡ asked.now.device) }
-    ensures mask { IfOk result (λ parts. parts.mask ≡ asked.now.mask) }
-    ensures right { OnOk result (HasNoFaultBelow asked.now 7) }
-    ensures fault { IfErr result (IsFirstFault asked.now) }
-{
-    let Ok(storage) = Storage::new(or_empty(asked.storage)) else {
-        return Err(JobFault::StorageTooLarge);
-    };
-    let Some(device) = numbered_device(asked.device) else {
-        return Err(JobFault::NotADevice);
-    };
-    let Some(mask) = FileMask::new(asked.mask) else {
-        return Err(JobFault::NotAMask);
-    };
-    Ok(JobParts {
-        storage,
-        device,
-        mask,
-    })
 }
 
 /// The extents of the file, or their fault.
@@ -94,10 +60,12 @@ fn extents_of(alloc: Global, asked: &CJob<'_>) -> Result<Extents, Refusal>
     }
 }
 
-/// All that a job needs, as C names it.
+/// All that a job needs, as C names it. Storage is borrowed.
 #[derive(Drop)]
 pub(crate) struct ReadyJob<'a> {
-    parts: JobParts<'a>,
+    storage: Storage<'a>,
+    device: Device,
+    mask: FileMask,
     extents: Extents,
     limit: Limit,
 }
@@ -108,16 +76,23 @@ pub(crate) fn make_ready<'a>(alloc: Global, asked: &CJob<'a>) -> Result<ReadyJob
     ensures right { OnOk result (HasNoFault asked.now) }
     ensures refusal { IfErr result (IsRefusal ⊥ asked.now) }
 {
-    let parts = match parts_of(asked) {
-        Ok(parts) => parts,
-        Err(fault) => return Err(Refusal::Wrong(fault)),
+    let Ok(storage) = Storage::new(or_empty(asked.storage)) else {
+        return Err(Refusal::Wrong(JobFault::StorageTooLarge));
+    };
+    let Some(device) = numbered_device(asked.device) else {
+        return Err(Refusal::Wrong(JobFault::NotADevice));
+    };
+    let Some(mask) = FileMask::new(asked.mask) else {
+        return Err(Refusal::Wrong(JobFault::NotAMask));
     };
     let extents = extents_of(alloc, asked)?;
     let Some(limit) = Limit::new(asked.limit) else {
         return Err(Refusal::Wrong(JobFault::NotALimit));
     };
     Ok(ReadyJob {
-        parts,
+        storage,
+        device,
+        mask,
         extents,
         limit,
     })
@@ -130,10 +105,10 @@ impl<'a> ReadyJob<'a> {
         ensures { IsAskedJob asked.now result }
     {
         Job {
-            storage: self.parts.storage,
+            storage: self.storage,
             start: asked.start,
-            device: self.parts.device,
-            mask: self.parts.mask,
+            device: self.device,
+            mask: self.mask,
             extents: &self.extents,
             fetch: or_empty(asked.fetch),
             store: or_empty(asked.store),

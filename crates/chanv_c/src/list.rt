@@ -51,6 +51,7 @@ pub extern "C" fn chanv_list(
 }
 
 /// The places that the program can reach.
+#[tactic(auto, using(crate::proofs::Refusals::asked_refused))]
 fn reachable_places(alloc: Global, asked: &CJob<'_>) -> Result<Explored, Refusal>
     ensures answer { IfOk result (AreJobPlaces asked.now) }
     ensures right { OnOk result (HasNoFault asked.now) }

@@ -5,20 +5,14 @@ ghost use Rattle.std.specs.Prelude.{IfOk, IfErr, IsTrue, OnOk};
 ghost use Rattle.std.specs.List.{All};
 ghost use Rattle.chan_areas.specs.Merged.{IsMerged};
 ghost use Rattle.chan_needs.specs.Remembered.{HoldsAreas, IsInside, bytes_in, total_len};
-ghost use Rattle.chan_walk.specs.OpenJob.{open_job, IsOpenJob};
 ghost use Rattle.chan_needs.specs.Listed.{listed};
-ghost use Rattle.chan_walk.specs.Verdict.{IsVerdict};
-ghost use Rattle.chan_walk.specs.declared.verdict.Verdict as declared;
 ghost use Rattle.chanv_c.specs.Answers.{IsAnswerCode, IsRefusal};
-ghost use Rattle.chanv_c.specs.Job.{IsAskedJob};
 ghost use Rattle.chanv_c.specs.Faults.{HasNoFault};
 ghost use Rattle.chanv_c.specs.Needs.{AreWrittenNeeds, HasTooManyOpenly, HaveRoomForNeeds};
 ghost use Rattle.chanv_c.specs.Needs.{HaveTooLittleRoom, IsFoundNeeds, AsksOverCopy, IsWrittenNo};
 ghost use Rattle.chanv_c.specs.Needs.{KeepsOtherAreas, with_area, with_areas};
 ghost use Rattle.chanv_c.specs.Needs.{StandFirst, without_needs, needs_for_c};
-ghost use Rattle.chanv_c.specs.Needs.{address_or_zero, is_there};
 ghost use Rattle.chanv_c.specs.declared.job.CJob as asked;
-ghost use Rattle.chanv_c.specs.declared.refusal.Refusal.TheVariants.{Memory};
 ghost use Rattle.chanv_c.specs.declared.codes.TheConstants.{MEMORY, NO, NO_ROOM, YES};
 ghost use Rattle.chanv_c.specs.declared.codes.TheConstants.{CHANGED_MEANWHILE, TOO_MANY_PLACES};
 ghost use Rattle.chanv_c.specs.declared.codes.TheConstants.{STORAGE_TOO_LARGE};
@@ -26,11 +20,11 @@ ghost use Rattle.chanv_c.specs.declared.codes.TheConstants.{STORAGE_TOO_LARGE};
 use crate::codes::{CHANGED_MEANWHILE, MEMORY, NO, NO_ROOM, YES};
 use crate::job::{CJob, make_ready};
 use crate::refusal::Refusal;
-use crate::verify::CVerdict;
+use crate::verify::{CVerdict, NO_VERDICT, verdict_of};
 use crate::writing::{entry_number, write_list};
 use ccw_core::{Area, Storage};
 use chan_needs::{Extent, Needs, copy_kept, kept_len, needs_from, or_empty};
-use chan_walk::{Job, OpenJob, Reason, Verdict, survey};
+use chan_walk::{OpenJob, Reason, Verdict, survey};
 use chan_why::{Remarks, remarks_from};
 use std::alloc::Global;
 
@@ -62,6 +56,26 @@ pub struct CNeeded {
     /// 0: C has bytes here that no field takes.
     pub unused: [u8; 3],
 }
+
+/// The answer without needs: all zeros.
+const NO_NEEDS: CNeeded = CNeeded {
+    verdict: NO_VERDICT,
+    extent_count: 0,
+    fetch_count: 0,
+    store_count: 0,
+    keep_count: 0,
+    kept_len: 0,
+    storage_len: 0,
+    hangs_at: 0,
+    interrupts_at: 0,
+    ends_chaining_at: 0,
+    mask: 0,
+    may_hang: 0,
+    interrupts: 0,
+    ends_chaining: 0,
+    hangs_entered: 0,
+    unused: [0; 3],
+};
 
 /// What the open job shows of a program.
 #[derive(Drop)]
@@ -112,20 +126,20 @@ pub extern "C" fn needs_by_copy(
         ≡ without_needs (record { extent = out.new.verdict.extent; address = 0; reason = 0 }) }
     ensures no_extent { result < STORAGE_TOO_LARGE → out.new.verdict.extent ≡ 0 }
 {
+    *out = NO_NEEDS;
     let first = match needs_of(alloc, job) {
         Ok(FoundNeeds::Needed(needs, _)) => needs,
         Ok(FoundNeeds::NoJob { address, reason }) => {
-            *out = without_needs(0, address, u32::from(reason.number()));
+            out.verdict = verdict_of(Verdict::No { address, reason });
             return NO;
         }
         Err(refusal) => {
-            *out = without_needs(refusal.extent(), 0, 0);
+            out.verdict.extent = refusal.extent();
             return refusal.code();
         }
     };
     let copied = first.keep.as_slice();
     if !copy_areas(job, copied, copy) {
-        *out = without_needs(0, 0, 0);
         return MEMORY;
     }
     let still = CJob {
@@ -194,19 +208,13 @@ fn needs_over(
         ≡ without_needs (record { extent = 0; address = 0; reason = 0 }) }
     ensures changed { result ≡ CHANGED_MEANWHILE → KeepsOtherAreas still.now copied.now }
 {
+    *out = NO_NEEDS;
     let (needs, remarks) = match needs_of(alloc, still) {
         Ok(FoundNeeds::Needed(needs, remarks)) => (needs, remarks),
-        Ok(FoundNeeds::NoJob { .. }) => {
-            *out = without_needs(0, 0, 0);
-            return CHANGED_MEANWHILE;
-        }
-        Err(refusal) => {
-            *out = without_needs(0, 0, 0);
-            return code_over_copy(refusal);
-        }
+        Err(Refusal::Memory) => return MEMORY,
+        _ => return CHANGED_MEANWHILE,
     };
     if needs.keep.as_slice() != copied {
-        *out = without_needs(0, 0, 0);
         return CHANGED_MEANWHILE;
     }
     let found = needs_for_c(&needs, remarks);
@@ -222,66 +230,6 @@ fn needs_over(
     YES
 }
 
-/// The number of a refusal of a job that was judged over a copy: `MEMORY`, or that storage changed.
-fn code_over_copy(refusal: Refusal) -> u32
-    ensures { ((result ≡ MEMORY) × (refusal ≡ Memory))
-        ⊎ ((result ≡ CHANGED_MEANWHILE) × (refusal ≢ Memory)) }
-{
-    match refusal {
-        Refusal::Memory => MEMORY,
-        _ => CHANGED_MEANWHILE,
-    }
-}
-
-/// The answer without needs: all zeros except a verdict or the index of an extent.
-fn without_needs(extent: usize, address: u32, reason: u32) -> CNeeded
-    ensures { result
-        ≡ without_needs (record { extent = extent; address = address; reason = reason }) }
-{
-    CNeeded {
-        verdict: CVerdict {
-            extent,
-            address,
-            reason,
-        },
-        extent_count: 0,
-        fetch_count: 0,
-        store_count: 0,
-        keep_count: 0,
-        kept_len: 0,
-        storage_len: 0,
-        hangs_at: 0,
-        interrupts_at: 0,
-        ends_chaining_at: 0,
-        mask: 0,
-        may_hang: 0,
-        interrupts: 0,
-        ends_chaining: 0,
-        hangs_entered: 0,
-        unused: [0; 3],
-    }
-}
-
-/// Whether there is an address, as C is told: 1 or 0.
-fn is_there(address: Option<u32>) -> u8
-    ensures { result ≡ is_there address }
-{
-    match address {
-        Some(_) => 1,
-        None => 0,
-    }
-}
-
-/// The address, or 0 if there is none.
-fn address_or_zero(address: Option<u32>) -> u32
-    ensures { result ≡ address_or_zero address }
-{
-    match address {
-        Some(address) => address,
-        None => 0,
-    }
-}
-
 /// The answer about needs and about what the program may do, without the lists.
 fn needs_for_c(needs: &Needs, remarks: Remarks) -> CNeeded
     requires { IsMerged needs.now.keep.items }
@@ -292,11 +240,6 @@ fn needs_for_c(needs: &Needs, remarks: Remarks) -> CNeeded
         None => (0, 0, 0),
     };
     CNeeded {
-        verdict: CVerdict {
-            extent: 0,
-            address: 0,
-            reason: 0,
-        },
         extent_count: needs.extents.len(),
         fetch_count: needs.fetch.len(),
         store_count: needs.store.len(),
@@ -304,14 +247,14 @@ fn needs_for_c(needs: &Needs, remarks: Remarks) -> CNeeded
         kept_len: kept_len(&needs.keep),
         storage_len: needs.storage_len,
         hangs_at,
-        interrupts_at: address_or_zero(remarks.interrupts),
-        ends_chaining_at: address_or_zero(remarks.ends_chaining),
+        interrupts_at: remarks.interrupts.unwrap_or(0),
+        ends_chaining_at: remarks.ends_chaining.unwrap_or(0),
         mask: needs.mask.byte(),
         may_hang,
-        interrupts: is_there(remarks.interrupts),
-        ends_chaining: is_there(remarks.ends_chaining),
+        interrupts: u8::from(remarks.interrupts.is_some()),
+        ends_chaining: u8::from(remarks.ends_chaining.is_some()),
         hangs_entered,
-        unused: [0; 3],
+        ..NO_NEEDS
     }
 }
 
@@ -358,24 +301,12 @@ fn needs_of(alloc: Global, asked: &CJob<'_>) -> Result<FoundNeeds, Refusal>
 {
     let ready = make_ready(alloc, asked)?;
     let job = ready.job(asked);
-    let opened = OpenJob::of(alloc, &job)?;
-    found_on(alloc, asked, &job, &opened.job())
-}
-
-/// Judges a program by its open job.
-fn found_on(alloc: Global, asked: &CJob<'_>, job: &Job, opened: &Job) -> Result<FoundNeeds, Refusal>
-    requires asked { IsAskedJob asked.now job.now }
-    requires right { HasNoFault asked.now }
-    requires opened { IsOpenJob job.now opened.now }
-    requires verdict { (v : declared.Verdict) → IsVerdict opened.now v
-        ↔ IsVerdict (open_job job.now) v }
-    ensures found { IfOk result (IsFoundNeeds asked.now) }
-    ensures refusal { IfErr result (IsRefusal (HasTooManyOpenly asked.now) asked.now) }
-{
-    let survey = survey(alloc, opened)?;
+    let open = OpenJob::of(alloc, &job)?;
+    let opened = open.job();
+    let survey = survey(alloc, &opened)?;
     match survey.verdict() {
         Verdict::Yes => {
-            let needs = needs_from(alloc, opened, &survey)?;
+            let needs = needs_from(alloc, &opened, &survey)?;
             Ok(FoundNeeds::Needed(needs, remarks_from(alloc, &survey)?))
         }
         Verdict::No { address, reason } => Ok(FoundNeeds::NoJob { address, reason }),

@@ -35,6 +35,14 @@ pub struct CRefusal {
     pub value: u32,
 }
 
+/// The refusal of an answer that isn't a refusal: all zeros.
+const NO_REFUSAL: CRefusal = CRefusal {
+    extent: 0,
+    program: 0,
+    code: 0,
+    value: 0,
+};
+
 /// Whether a remembered program may start under the job, together with the programs in flight:
 /// `YES` if it may; `NO` if not, with the first refusal in `out`. Otherwise it says why there is no
 /// answer, like `chanv_verify`, with the first wrong extent if there is one.
@@ -64,13 +72,15 @@ pub extern "C" fn chanv_check_start(
     ensures nothing { NO < result → out.new ≡ no_refusal_for_c out.new.extent }
     ensures no_extent { result < STORAGE_TOO_LARGE → out.new.extent ≡ 0 }
 {
+    *out = NO_REFUSAL;
     match start_reply(alloc, job, in_flight, program) {
-        Ok(start) => {
-            *out = start_for_c(start);
-            start_code(start)
+        Ok(Start::Yes) => YES,
+        Ok(Start::No(refusal)) => {
+            *out = refusal_for_c(refusal);
+            NO
         }
         Err(refusal) => {
-            *out = no_refusal_for_c(refusal.extent());
+            out.extent = refusal.extent();
             refusal.code()
         }
     }
@@ -95,11 +105,9 @@ pub extern "C" fn chanv_check_write(
     ensures nothing { result ≡ YES → out.new ≡ no_refusal_for_c 0 }
     ensures codes { result ≤ NO }
 {
+    *out = NO_REFUSAL;
     match may_write(in_flight, *area) {
-        None => {
-            *out = no_refusal_for_c(0);
-            YES
-        }
+        None => YES,
         Some((program, byte)) => {
             *out = CRefusal {
                 program,
@@ -125,7 +133,7 @@ pub extern "C" fn chanv_check_kept(
     ensures nothing { result ≢ NO → out.new ≡ no_refusal_for_c 0 }
     ensures codes { (result ≤ NO) ⊎ (result ≡ MEMORY) }
 {
-    *out = no_refusal_for_c(0);
+    *out = NO_REFUSAL;
     match kept_outside(alloc, program, areas) {
         Ok(None) => YES,
         Ok(Some(byte)) => {
@@ -141,20 +149,9 @@ fn refused(code: u32, value: u32) -> CRefusal
     ensures { result ≡ specs.refused code value }
 {
     CRefusal {
-        extent: 0,
-        program: 0,
         code,
         value,
-    }
-}
-
-/// The refusal of an answer that isn't a refusal: all zeros except the index of a wrong extent.
-fn no_refusal_for_c(extent: usize) -> CRefusal
-    ensures { result ≡ no_refusal_for_c extent }
-{
-    CRefusal {
-        extent,
-        ..refused(0, 0)
+        ..NO_REFUSAL
     }
 }
 
@@ -179,26 +176,6 @@ fn refusal_for_c(refusal: StartRefusal) -> CRefusal
             program,
             ..refused(REFUSED_KEEPS_STORED_OVER, byte)
         },
-    }
-}
-
-/// The struct that goes with an answer.
-fn start_for_c(start: Start) -> CRefusal
-    ensures { result ≡ start_for_c start }
-{
-    match start {
-        Start::Yes => no_refusal_for_c(0),
-        Start::No(refusal) => refusal_for_c(refusal),
-    }
-}
-
-/// The number of an answer in the header.
-fn start_code(start: Start) -> u32
-    ensures { result ≡ start_code start }
-{
-    match start {
-        Start::Yes => YES,
-        Start::No(_) => NO,
     }
 }
 

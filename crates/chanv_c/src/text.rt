@@ -1,12 +1,10 @@
 //! The text that explains the verdict on a channel program.
 
-ghost use Rattle.std.specs.Prelude.{◌≡◌, ◌≢◌, ℕ, ◌<◌, ◌≤◌, ◌⊎◌, IfOk, IfErr, OnOk};
-ghost use Rattle.chan_walk.specs.Places.{HasMoreThan};
-ghost use Rattle.chan_walk.specs.declared.error.WalkError.TheVariants as walk;
+ghost use Rattle.std.specs.Prelude.{◌≡◌, ◌≢◌, ℕ, ◌<◌, ◌≤◌, IfOk, IfErr, OnOk};
 ghost use Rattle.chanv_c.specs.Answers.{HasTooMany, IsAnswerCode, IsRefusal};
 ghost use Rattle.chanv_c.specs.Faults.{HasNoFault};
 ghost use Rattle.chanv_c.specs.declared.text.VerdictText as declared;
-ghost use Rattle.chanv_c.specs.Text.{IsText, IsTextOn, IsWrittenWhole, IsTextTooLong};
+ghost use Rattle.chanv_c.specs.Text.{IsText, IsWrittenWhole, IsTextTooLong};
 ghost use Rattle.chanv_c.specs.Text.{verdict_code};
 ghost use Rattle.chanv_c.specs.declared.codes.TheConstants.{NO, NO_ROOM};
 
@@ -15,7 +13,7 @@ use crate::job::{CJob, make_ready};
 use crate::refusal::Refusal;
 use crate::writing::write_list;
 use chan_deck::explanation_text;
-use chan_walk::{Job, Verdict, WalkError, survey};
+use chan_walk::{Verdict, survey};
 use chan_why::witness_from;
 use std::alloc::Global;
 
@@ -45,23 +43,11 @@ pub extern "C" fn chanv_text(
     ensures number { (extent : ℕ) × IsAnswerCode (HasTooMany job.now) job.now result extent }
     ensures no_len { NO < result → result ≢ NO_ROOM → len.new ≡ 0 }
 {
-    match text_on_job(alloc, job) {
-        Ok(found) => write_text(&found, buffer, len),
-        Err(refusal) => {
-            *len = 0;
-            refusal.code()
-        }
-    }
-}
-
-/// Writes a text, if there is room, and answers by its verdict's number, or `NO_ROOM`.
-fn write_text(found: &VerdictText, buffer: &mut [u8], len: &mut usize) -> u32
-    ensures written { result ≤ NO → (result ≡ verdict_code found.now.verdict)
-        × IsWrittenWhole found.now len.new buffer.old buffer.new }
-    ensures room { result ≡ NO_ROOM → IsTextTooLong found.now len.new buffer.old }
-    ensures kept { NO < result → buffer.new ≡ buffer.old }
-    ensures codes { (result ≤ NO) ⊎ (result ≡ NO_ROOM) }
-{
+    *len = 0;
+    let found = match text_on(alloc, job) {
+        Ok(found) => found,
+        Err(refusal) => return refusal.code(),
+    };
     let text = found.text.as_bytes();
     *len = text.len();
     if buffer.len() < text.len() {
@@ -81,24 +67,18 @@ fn code_of(verdict: Verdict) -> u32
     }
 }
 
-/// The text on the job that C asks about.
-fn text_on_job(alloc: Global, asked: &CJob<'_>) -> Result<VerdictText, Refusal>
+/// The verdict on the job that C asks about, with the text that explains it.
+#[tactic(auto, using(crate::proofs::Refusals::asked_refused))]
+fn text_on(alloc: Global, asked: &CJob<'_>) -> Result<VerdictText, Refusal>
     ensures answer { IfOk result (IsText asked.now) }
     ensures right { OnOk result (HasNoFault asked.now) }
     ensures refusal { IfErr result (IsRefusal (HasTooMany asked.now) asked.now) }
 {
     let ready = make_ready(alloc, asked)?;
-    Ok(text_on(alloc, &ready.job(asked))?)
-}
-
-/// The verdict on a job, with the text that explains it.
-fn text_on(alloc: Global, job: &Job) -> Result<VerdictText, WalkError>
-    ensures text { IfOk result (IsTextOn job.now) }
-    ensures many { IfErr result (λ e. e ≡ walk.TooManyPlaces → HasMoreThan job.now job.now.limit) }
-{
-    let survey = survey(alloc, job)?;
+    let job = ready.job(asked);
+    let survey = survey(alloc, &job)?;
     let witness = witness_from(alloc, &survey)?;
-    let text = explanation_text(alloc, job, &survey, &witness, &[])?;
+    let text = explanation_text(alloc, &job, &survey, &witness, &[])?;
     Ok(VerdictText {
         verdict: survey.verdict(),
         text,

@@ -6,7 +6,7 @@ ghost use Rattle.chanv_c.specs.Answers.{HasTooMany, IsJudged, IsAnswerCode, IsRe
 ghost use Rattle.chanv_c.specs.Faults.{HasNoFault};
 ghost use Rattle.chanv_c.specs.Why as specs;
 ghost use Rattle.chanv_c.specs.Why.{IsExplanationFor, IsWrittenExplanation, IsWrittenTo};
-ghost use Rattle.chanv_c.specs.Why.{HasLittleRoomFor, no_explanation_for_c, verdict_for_c};
+ghost use Rattle.chanv_c.specs.Why.{HasLittleRoomFor, no_explanation_for_c};
 ghost use Rattle.chanv_c.specs.declared.why.WitnessedVerdict as declared;
 ghost use Rattle.chanv_c.specs.declared.codes.TheConstants.{YES, NO, STORAGE_TOO_LARGE, NO_ROOM};
 
@@ -14,7 +14,7 @@ use crate::codes::{NO, NO_ROOM, YES};
 use crate::evidence::{CEvidence, NO_VALUES, cause_for_c};
 use crate::job::{CJob, make_ready};
 use crate::refusal::Refusal;
-use crate::verify::CVerdict;
+use crate::verify::{CVerdict, NO_VERDICT, verdict_of};
 use crate::writing::{CPlace, write_path};
 use chan_walk::{Place, Verdict, survey};
 use chan_why::{Witness, witness_from};
@@ -31,6 +31,15 @@ pub struct CExplanation {
     /// 0: C has bytes here that no field takes.
     pub unused: u32,
 }
+
+/// The explanation of an answer without one: all zeros.
+const NO_EXPLANATION: CExplanation = CExplanation {
+    verdict: NO_VERDICT,
+    path_count: 0,
+    second_path_count: 0,
+    evidence: NO_VALUES,
+    unused: 0,
+};
 
 /// The verdict on a job, and what shows it.
 #[derive(Drop)]
@@ -67,20 +76,18 @@ pub extern "C" fn chanv_why(
         → out.new ≡ no_explanation_for_c out.new.verdict.extent }
     ensures no_extent { result < STORAGE_TOO_LARGE → out.new.verdict.extent ≡ 0 }
 {
+    *out = NO_EXPLANATION;
     let found = match explained(alloc, job) {
         Ok(found) => found,
         Err(refusal) => {
-            *out = no_explanation_for_c(refusal.extent());
+            out.verdict.extent = refusal.extent();
             return refusal.code();
         }
     };
-    match found.verdict {
-        Verdict::Yes => {
-            *out = no_explanation_for_c(0);
-            return YES;
-        }
-        Verdict::No { .. } => *out = explanation_for_c(&found),
+    if let Verdict::Yes = found.verdict {
+        return YES;
     }
+    *out = explanation_for_c(&found);
     let (first, second) = (
         found.witness.path.as_slice(),
         found.witness.second_path.as_slice(),
@@ -110,23 +117,6 @@ fn write_wanted(path: &[Place], room: &mut [CPlace])
     }
 }
 
-/// The explanation of an answer without one: all zeros except the index of a wrong extent.
-fn no_explanation_for_c(extent: usize) -> CExplanation
-    ensures { result ≡ no_explanation_for_c extent }
-{
-    CExplanation {
-        verdict: CVerdict {
-            extent,
-            address: 0,
-            reason: 0,
-        },
-        path_count: 0,
-        second_path_count: 0,
-        evidence: NO_VALUES,
-        unused: 0,
-    }
-}
-
 /// The explanation without the paths.
 fn explanation_for_c(found: &WitnessedVerdict) -> CExplanation
     ensures { result ≡ specs.explanation_for_c found.now }
@@ -136,29 +126,12 @@ fn explanation_for_c(found: &WitnessedVerdict) -> CExplanation
         path_count: found.witness.path.len(),
         second_path_count: found.witness.second_path.len(),
         evidence: cause_for_c(found.witness.evidence),
-        unused: 0,
-    }
-}
-
-/// The verdict as a struct of C.
-fn verdict_of(verdict: Verdict) -> CVerdict
-    ensures { result ≡ verdict_for_c verdict }
-{
-    match verdict {
-        Verdict::Yes => CVerdict {
-            extent: 0,
-            address: 0,
-            reason: 0,
-        },
-        Verdict::No { address, reason } => CVerdict {
-            extent: 0,
-            address,
-            reason: u32::from(reason.number()),
-        },
+        ..NO_EXPLANATION
     }
 }
 
 /// The verdict on the job that C asks about, and what shows it.
+#[tactic(auto, using(crate::proofs::Refusals::asked_refused))]
 fn explained(alloc: Global, asked: &CJob<'_>) -> Result<WitnessedVerdict, Refusal>
     ensures answer { IfOk result (IsExplanationFor asked.now) }
     ensures right { OnOk result (HasNoFault asked.now) }

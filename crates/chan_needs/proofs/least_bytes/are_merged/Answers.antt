@@ -1,6 +1,6 @@
 use Rattle.chan_needs.proofs.Names.{arith, merged_len, ◌+◌}
 use Rattle.chan_needs.proofs.Holding.{nowhere}
-use Rattle.chan_needs.proofs.Leasts.{go_on_next}
+use Rattle.chan_needs.proofs.Leasts.{merged_next}
 use Rattle.chan_needs.proofs.least_bytes.are_merged.Goals as goal
 use Rattle.chan_needs.proofs.least_bytes.are_merged.Goals.{then-area-eq0-via-then-area-eq0, then-area-eq0-via-else-area-eq0+then-from-least_start}
 
@@ -15,5 +15,5 @@ returns-then-area-eq0 c = (
 
 pub loop-area-preserved : goal.loop-area-preserved
 loop-area-preserved c =
-    go_on_next c.args.areas.now c.loop-area.area-index c.loop-area.least_start (c.end_of-least_start.result + 1) c.loop-area-test.true
+    merged_next c.args.areas.now c.loop-area.area-index c.loop-area.least_start (c.end_of-least_start.result + 1) c.loop-area-test.true
     (omega arith) (omega arith) (omega arith) c.loop-area.invariant

@@ -13,7 +13,7 @@ use Rattle.chanv_c.proofs.needs.needs_by_copy.Goals as goal
 
 pub returns-in-Err-clause-number : goal.returns-in-Err-clause-number
 returns-in-Err-clause-number c =
-    rw (c.code.ensures, c.without_needs-in-Err.ensures, c.extent.ensures)
+    rw (c.code.ensures, c.extent-out.ensures)
     (refusal_number (HasTooManyOpenly c.args.job.now) c.args.job.now c.in-Err.refusal c.in-Err.ensures.refusal)
 
 pub returns-clause-quiet : goal.returns-clause-quiet

@@ -1,14 +1,14 @@
 -- The answer is that of the text, and a fault is told by its number.
+use Rattle.std.proofs.Common.{rules}
 use Rattle.chanv_c.specs.Answers.{HasTooMany, refusal_extent}
 use Rattle.chanv_c.proofs.Refusals.{refusal_number}
 use Rattle.chanv_c.proofs.text.chanv_text.Goals as goal
 
-pub returns-in-Ok-clause-written : goal.returns-in-Ok-clause-written
-returns-in-Ok-clause-written c = λ few.
-    let (code, whole) = c.write_text.ensures.written few in (c.in-Ok.found, c.in-Ok.ensures.answer, code, whole)
+pub returns-clause-written : goal.returns-clause-written
+returns-clause-written c = λ few. (c.in-Ok.found, c.in-Ok.ensures.answer, c.code_of.ensures, search rules)
 
-pub returns-in-Ok-clause-room : goal.returns-in-Ok-clause-room
-returns-in-Ok-clause-room c = λ is. (c.in-Ok.found, c.in-Ok.ensures.answer, c.write_text.ensures.room is)
+pub returns-then-buffer-text-clause-room : goal.returns-then-buffer-text-clause-room
+returns-then-buffer-text-clause-room c = λ is. (c.in-Ok.found, c.in-Ok.ensures.answer, search rules)
 
 pub returns-in-Err-clause-number : goal.returns-in-Err-clause-number
 returns-in-Err-clause-number c = (

@@ -5,4 +5,4 @@ use Rattle.chanv_c.proofs.verify.chanv_verify.Goals as goal
 
 pub returns-in-Err-clause-number : goal.returns-in-Err-clause-number
 returns-in-Err-clause-number c =
-    rw (c.code.ensures, c.extent.ensures) (refusal_number (HasTooMany c.args.job.now) c.args.job.now c.in-Err.refusal c.in-Err.ensures.refusal)
+    rw (c.code.ensures, c.extent-out.ensures) (refusal_number (HasTooMany c.args.job.now) c.args.job.now c.in-Err.refusal c.in-Err.ensures.refusal)

@@ -1,8 +1,6 @@
 -- Too many places, by their number, and a yes by its verdict.
-use Rattle.std.proofs.Common.{◌≡◌, ◌≢◌, List, inl, inr, sym, subst, ◌∙◌}
+use Rattle.std.proofs.Common.{List, inl, inr, subst}
 use Rattle.chan_walk.specs.declared.place.Place.{Place}
-use Rattle.chan_walk.specs.declared.verdict.Verdict.{Verdict}
-use Rattle.chan_walk.specs.declared.verdict.Verdict.TheVariants.{Yes}
 use Rattle.chanv_c.specs.Answers.{HasTooMany, IsJudged}
 use Rattle.chanv_c.specs.Why.{HasLittleRoomFor, IsWrittenTo}
 use Rattle.chanv_c.proofs.Refusals.{refusal_number}
@@ -11,7 +9,7 @@ use Rattle.chanv_c.proofs.why.chanv_why.Goals.{then-has_little_room-via-then-has
 
 pub returns-in-Err-clause-number : goal.returns-in-Err-clause-number
 returns-in-Err-clause-number c =
-    rw (c.code.ensures, c.no_explanation_for_c.ensures, c.extent.ensures)
+    rw (c.code.ensures, c.extent-out.ensures)
     (refusal_number (HasTooMany c.args.job.now) c.args.job.now c.in-Err.refusal c.in-Err.ensures.refusal)
 
 pub returns-in-Yes-clause-yes : goal.returns-in-Yes-clause-yes
@@ -19,13 +17,10 @@ returns-in-Yes-clause-yes c =
     let a = c.in-Ok.ensures.answer in
     λ _. subst (IsJudged c.args.job.now) c.in-Yes.is (record { job = a.job; asked = a.asked; answer = a.answer })
 
-never_yes : (v w : Verdict) → v ≡ w → (w ≡ Yes → ⊥) → v ≢ Yes
-never_yes v w e n = λ y. n (sym e ∙ y)
-
 pub returns-then-has_little_room-clause-room : goal.returns-then-has_little_room-clause-room
 returns-then-has_little_room-clause-room c = λ _. (
   c.in-Ok.found,
-  record { explanation = c.in-Ok.ensures.answer; offends = never_yes c.in-Ok.found.verdict _ c.in-No.is (λ e. cc); out_is = c.explanation_for_c.ensures },
+  record { explanation = c.in-Ok.ensures.answer; offends = c.in_default.not-Yes; out_is = c.explanation_for_c.ensures },
   elim c.then-has_little_room.branch [
     | then-has_little_room-via-then-has_little_room w ↦ inl (
         subst (λ (l : List Place). HasLittleRoomFor l c.args.path.now) c.as_slice-first.ensures.value
@@ -39,7 +34,7 @@ returns-then-has_little_room-clause-room c = λ _. (
 pub returns-clause-no : goal.returns-clause-no
 returns-clause-no c = λ _. (
   c.in-Ok.found,
-  record { explanation = c.in-Ok.ensures.answer; offends = never_yes c.in-Ok.found.verdict _ c.in-No.is (λ e. cc); out_is = c.explanation_for_c.ensures },
+  record { explanation = c.in-Ok.ensures.answer; offends = c.in_default.not-Yes; out_is = c.explanation_for_c.ensures },
   subst (λ (l : List Place). IsWrittenTo l c.args.path.now c.write_wanted.new.room) c.as_slice-first.ensures.value c.write_wanted.ensures,
   subst (λ (l : List Place). IsWrittenTo l c.args.second_path.now c.write_wanted-2.new.room) c.as_slice-second.ensures.value c.write_wanted-2.ensures,
 )
