@@ -3,7 +3,7 @@
 `chanv verify` prints a deck's line of the folder's verdicts.txt and nothing else. That line lists
 the files next to the deck: NAME.list, NAME.why, NAME.all, NAME.dot and NAME.needs have the output
 of `chanv list`, `why`, `why --all`, `graph` and `needs`, and NAME.notes what `why` writes on
-standard error over standard input. A file that is listed has to be there, and one that isn't listed
+standard error before its help. A file that is listed has to be there, and one that isn't listed
 must not be.
 """
 
@@ -18,7 +18,7 @@ from examples import (
     status_of_needs,
     verdicts_of,
 )
-from cures import said_openly
+from cures import said_beside, said_openly
 from needs import NO_JOB
 from running import Ran, run, text_of
 
@@ -32,11 +32,10 @@ def check_deck(checks, program, deck, verdict):
     checks.expect(f"the files next to {name}", sorted(listed), sorted(there))
     ran = run(program, "verify", given=deck)
     checks.expect(f"verify {name}", Ran(status, f"{verdict}\n"), ran)
-    notes = text_of(deck.with_suffix(".notes")) if "notes" in there else ""
     for ending in there - {"notes"}:
         text = text_of(deck.with_suffix(f".{ending}"))
         ended = status_of_needs(text) if ending == "needs" else status
-        error = notes if ending in ("why", "all") else ""
+        error = said_beside(deck) if ending in ("why", "all") else ""
         if ending == "needs" and ended == 1:
             error = NO_JOB + said_openly(text_of(deck))
         ran = run(program, *COMMANDS[ending].split(), given=deck)
