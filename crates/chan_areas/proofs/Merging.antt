@@ -13,7 +13,6 @@ use Rattle.ccw_core.specs.declared.areas.Area.{Area}
 use Rattle.ccw_core.specs.Areas.{end_of, lies_in}
 use Rattle.ccw_core.proofs.Covering.{lies_in-nil}
 use Rattle.chan_areas.specs.Merged.{start_of, IsByteOf, EndsBelow, BeginAbove, IsMerged, AreExactly, AreMergedTo, AreRuns, HaveSameBytes, IsOneRun, MergedIsUnique}
-use Rattle.std.proofs.Math.Seq.{take-length}
 
 -- ---- bytes of areas
 
@@ -115,10 +114,6 @@ bytes_next merged now xs run r area i b l e f g =
     ∙ same_before (merged ++ run ∷ []) (take i xs) (area ∷ []) b f
     ∙ ap (λ z. lies_in (take i xs ++ z ∷ []) b) (sym e)
     ∙ ap (λ z. lies_in z b) (sym (take_more xs i area l))
-
--- at the end, with a run
-pub bytes_end : (now all xs : List Area) (i b : ℕ) → i ≡ length xs → now ≡ all → lies_in all b ≡ lies_in (take i xs) b → lies_in now b ≡ lies_in xs b
-bytes_end now all xs i b e f g = ap (λ z. lies_in z b) f ∙ g ∙ ap (λ n. lies_in (take n xs) b) e ∙ ap (λ z. lies_in z b) (take-length xs)
 
 -- an empty run has no bytes
 pub bytes_empty : (xs : List Area) (run : Area) (b : ℕ) → run.len ≡ 0 → lies_in xs b ≡ lies_in (xs ++ run ∷ []) b

@@ -1,5 +1,5 @@
 -- What has been said where reading stands, and that a step says one line more.
-use Rattle.chan_deck.proofs.Names.{[], after_item, all_append, AllByRecursion, and_parts, ap, append-nil, append_assoc, Area, arith, Cause, cond_both, Device, device, end, eqb-true, extent, extent_of, false, fetch, Filling, HasForm, HasLimit, header, header_of, Heading, Image, image_of, is_limit, is_mask, is_size, is_zero, IsAddress, IsArea, IsByte, IsDeck, IsExtent, Item, items, LAST_CYLINDER, last_of, leb-true, length, length-append, limit, limit_line, List, Listing, lit<, ltb, ltb-false, map, map-append, mask, Masked, Named, nat_le, nat_tests, None, Ok, on_extent, on_put, OnDevice, One, Opening, Option, pad, put, puts, refl, replicate, Result, Some, stands, start, Started, State, step, storage, STORAGE_LIMIT, store, subst, suc, sym, true, Two, VersionNumber, Whole, zero, ℕ, ◌%◌, ◌&&◌, ◌++◌, ◌+◌, ◌-◌, ◌/◌, ◌<◌, ◌==◌, ◌∙◌, ◌∷◌, ◌≡◌, ◌≤◌}
+use Rattle.chan_deck.proofs.Names.{[], after_item, all_append, AllByRecursion, and_parts, ap, append-nil, append_assoc, Area, arith, Cause, cond_both, Device, device, end, eqb-true, extent, extent_of, fetch, Filling, HasForm, HasLimit, header, header_of, Heading, Image, image_of, is_limit, is_mask, is_size, is_zero, IsAddress, IsArea, IsByte, IsDeck, IsExtent, Item, items, LAST_CYLINDER, last_of, leb-true, length, length-append, limit, limit_line, List, Listing, lit<, ltb, ltb-false, map, map-append, mask, Masked, Named, nat_le, None, Ok, on_extent, on_put, OnDevice, One, Opening, Option, pad, put, puts, refl, replicate, Result, Some, stands, start, Started, State, step, storage, STORAGE_LIMIT, store, subst, suc, sym, true, Two, VersionNumber, Whole, zero, ℕ, ◌%◌, ◌&&◌, ◌++◌, ◌+◌, ◌-◌, ◌/◌, ◌<◌, ◌==◌, ◌∙◌, ◌∷◌, ◌≡◌, ◌≤◌}
 use Rattle.std.proofs.lemmas.Result.{IfOk-at_ok}
 use Rattle.std.specs.Result.{IfOk}
 use Rattle.chan_deck.proofs.PutLemmas.{length_pad, puts-padded, puts-put}
@@ -89,9 +89,6 @@ pub record IsState (s : State) : Type 0 where
 no_puts : puts (length {A = ℕ} [] / 8) 0 [] ≡ []
 unfolding puts
 no_puts = refl
-
-pub not_zero : (n : ℕ) → (n == 0) ≡ false → 0 < n
-not_zero n h = grind (arith, nat_tests)
 
 pub last_of-push : (is : List Item) (i : Item) → last_of (is ++ i ∷ []) ≡ Some i
 last_of-push [] i = refl

@@ -1,7 +1,6 @@
 -- What is found of a program over a copy of the bytes that it keeps.
-use Rattle.std.proofs.Common.{◌∙◌, ◌≡◌, ◌<◌, ◌+◌, ℕ, List, ap, drop, get_or, length, refl, subst, sym}
+use Rattle.std.proofs.Common.{◌∙◌, ◌≡◌, ℕ, List, ap, drop, length, subst, sym}
 use Rattle.ccw_core.specs.declared.areas.Area.{Area}
-use Rattle.chan_needs.proofs.Holding.{nowhere, rest_of}
 use Rattle.chan_walk.specs.Job.{storage_of}
 use Rattle.chan_why.specs.declared.remarks.Remarks.{Remarks}
 use Rattle.chan_needs.specs.Needs.{KeepsProgram}
@@ -10,7 +9,7 @@ use Rattle.chan_needs.specs.Listed.{Listed}
 use Rattle.chan_needs.proofs.Remembering.{same_device, same_held}
 use Rattle.chan_needs.proofs.Staying.{needs_stay}
 use Rattle.chanv_c.specs.declared.job.CJob.{CJob}
-use Rattle.chanv_c.specs.Needs.{AreNeedsOf, AreNeedsWhereHeld, with_area, with_areas}
+use Rattle.chanv_c.specs.Needs.{AreNeedsOf, AreNeedsWhereHeld, with_areas}
 
 -- the needs over one storage are those over each that is as long and holds the kept bytes
 pub where_held : (c : CJob) (n : Listed) (r : Remarks) (kept : List ℕ)
@@ -35,16 +34,3 @@ where_held c n r kept h held k start device len holds =
 pub record AreCopied (s : List ℕ) (areas : List Area) (i : ℕ) (old new : List ℕ) : Type 0 where
   pub same_length : length new ≡ length old
   pub rest : with_areas s (drop i areas) new ≡ with_areas s areas old
-
-pub none_copied : (s : List ℕ) (areas : List Area) (old : List ℕ) → AreCopied s areas 0 old old
-none_copied s areas old = record { same_length = refl; rest = refl }
-
-pub one_more_copied : (s : List ℕ) (areas : List Area) (i : ℕ) (old now new : List ℕ) → i < length areas → AreCopied s areas i old now
-    → length new ≡ length now → new ≡ with_area s (get_or areas i nowhere) now → AreCopied s areas (i + 1) old new
-one_more_copied s areas i old now new within h len is = record {
-  same_length = len ∙ h.same_length;
-  rest =
-      ap (λ z. with_areas s (drop (i + 1) areas) z) is
-      ∙ ap (λ (z : List Area). with_areas s z now) (sym (rest_of areas i within))
-      ∙ h.rest;
-}

@@ -5,7 +5,7 @@
 use crate::shared::{expect, paper_of};
 use ccw_core::Watched;
 use chan_deck::Cause;
-use chan_run::{Failure, Outcome, exit_status, greater_status, report};
+use chan_run::{Failure, Outcome, exit_status, report};
 
 /// An outcome, its status, its line, and its line over an input named `a.deck`.
 type Row = (Outcome, u8, &'static str, &'static str);
@@ -71,16 +71,5 @@ fn reports(rt: HostRuntime) {
         expect(&rt, is_said(*outcome, *status, line.as_bytes()), line);
         let is_so = is_reported_over("a.deck", *outcome, *status, named.as_bytes());
         expect(&rt, is_so, named);
-    }
-}
-
-/// The greatest status so far, another, and the greater of the two.
-static STATUSES: [(u8, u8, u8); 3] = [(0, 1, 1), (2, 1, 2), (2, 3, 3)];
-
-#[test]
-fn greatest_of_statuses(rt: HostRuntime) {
-    for (so_far, status, greatest) in &STATUSES {
-        let is_so = greater_status(*so_far, *status) == *greatest;
-        expect(&rt, is_so, "greater");
     }
 }

@@ -30,27 +30,6 @@ because 001000-001007 is not in storage of 0001000 bytes
 also 001008 outside-storage
 ";
 
-const SEARCH_LOOP_PICTURE: &str = "digraph program {
-  graph [label=\"yes\\n2314, mask 00, cylinders 10-19, storage 0001000\", labelloc=t, \
-    fontname=\"sans-serif\", fontsize=12,
-    fontcolor=\"#006000\", ranksep=0.45, nodesep=0.4, newrank=true];
-  node [shape=plain, fontname=\"monospace\", fontsize=10];
-  edge [arrowsize=0.7, fontname=\"sans-serif\", fontsize=9];
-  { rank=source; start [shape=plaintext, fontname=\"sans-serif\", margin=0.03]; }
-  \"000800 fresh t\" [label=<<table border=\"1\" cellborder=\"0\" cellspacing=\"0\" \
-    cellpadding=\"1\"><tr><td align=\"left\" port=\"row000800\">000800&#160;&#160;\
-    search-id-equal&#160;&#160;fetches&#160;000900-000904,&#160;5&#160;bytes&#160;\
-    (cylinder&#160;0,&#160;head&#160;0,&#160;record&#160;0)&#160;&#160;until&#160;found&#160;\
-    (TIC&#160;at&#160;000808)</td></tr><tr><td align=\"left\" port=\"row000810\">000810&#160;&#160;\
-    read-data&#160;&#160;&#160;&#160;&#160;&#160;&#160;&#160;stores&#160;&#160;000A00-000A4F,\
-    &#160;80&#160;bytes,&#160;SLI\
-    </td></tr></table>>];
-  start -> \"000800 fresh t\";
-  \"end 000800 fresh t\" [label=end, shape=plaintext, fontname=\"sans-serif\", margin=0.03];
-  \"000800 fresh t\" -> \"end 000800 fresh t\";
-}
-";
-
 /// What is asked for, a text, the read that fails, and what comes of it: the answer, and what was
 /// written by then. A write after that fails.
 #[derive(Clone, Copy)]
@@ -111,7 +90,7 @@ fn each_read_failing_in_turn(rt: HostRuntime) {
 }
 
 /// What is asked for, a text, and all that is written over it.
-static WRITTEN: [(Action, &str, &str); 4] = [
+static WRITTEN: [(Action, &str, &str); 3] = [
     (Action::Verify, SEARCH_LOOP, "yes\n"),
     (
         Action::List { wide: false },
@@ -123,7 +102,6 @@ static WRITTEN: [(Action, &str, &str); 4] = [
         END_OF_STORAGE,
         END_OF_STORAGE_EXPLANATION,
     ),
-    (Action::Graph, SEARCH_LOOP, SEARCH_LOOP_PICTURE),
 ];
 
 /// Whether a run is cut off wherever a write fails.
