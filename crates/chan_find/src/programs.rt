@@ -130,12 +130,15 @@ fn highest_apart(
     Ok(kept)
 }
 
-/// The starts of the programs of a job's storage.
+/// The starts of the programs of a job's storage. No other start leads to a single root.
 fn starts_of(alloc: Global, job: &Job) -> Result<Vec<u32>, AllocError>
     ensures { IfOk result (λ v. AreStarts (storage_of job.now) v.items) }
 {
     let codes = command_codes();
     let roots = roots(alloc, &codes, job)?;
+    if roots.len() < 2 {
+        return Ok(roots);
+    }
     highest_apart(alloc, &codes, job, roots)
 }
 
