@@ -135,11 +135,11 @@ fn starts_of(alloc: Global, job: &Job) -> Result<Vec<u32>, AllocError>
     ensures { IfOk result (λ v. AreStarts (storage_of job.now) v.items) }
 {
     let codes = command_codes();
-    let roots = roots(alloc, &codes, job)?;
-    if roots.len() < 2 {
-        return Ok(roots);
+    let found = roots(alloc, &codes, job)?;
+    if found.len() < 2 {
+        return Ok(found);
     }
-    highest_apart(alloc, &codes, job, roots)
+    highest_apart(alloc, &codes, job, found)
 }
 
 /// The starts of programs in storage, each once, in order. The call judges CCWs under the device's
