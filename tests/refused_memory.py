@@ -51,6 +51,14 @@ reached by
 000928 fresh - . 06 000900 -C---0 00 0018 read read-data
 000930 fresh - * 06 000930 -----0 00 0008 read read-data
 """
+HELP_ON_LATER = """\
+help: store the data elsewhere, so that the CCW at 000930 stays
+help: chanv explain changes-ccw
+"""
+HELP_ON_EXCHANGED = """\
+help: with "fetch 000900 000005" these bytes are lent
+help: chanv explain fetch-not-lent
+"""
 PLACES = "too many places: see too-many-places\n"
 
 # unit tests of calls that chanv doesn't make, each with one of all that comes before
@@ -66,7 +74,7 @@ CALLS = [
 
 
 def commands():
-    """Words of the program, their input, and what they write."""
+    """Words of the program, their input, what they write, and what they say beside that."""
     deck, changing = SEARCH_LOOP.read_bytes(), CHANGES_ITSELF.read_bytes()
     image = (EXAMPLES / "core.bin").read_bytes()
     lines = [f"{at:06X} {image[at : at + 64].hex()}\n" for at in range(0, len(image), 64)]
@@ -80,13 +88,23 @@ def commands():
         (["list"], deck, listing),
         (["verify", SEARCH_LOOP], b"", f"{SEARCH_LOOP}: yes\n"),
         (["list", SEARCH_LOOP], b"", listing),
-        (["why"], changing, text_of(EXAMPLES / "changes-itself.why")),
+        (
+            ["why"],
+            changing,
+            text_of(CHANGES_ITSELF.with_suffix(".why")),
+            said_beside(CHANGES_ITSELF),
+        ),
         (["why", SEARCH_LOOP], b"", f"{SEARCH_LOOP}: yes\n"),
-        (["why", "--of", "930"], CHANGES_BOTH.read_bytes(), OF_LATER),
+        (["why", "--of", "930"], CHANGES_BOTH.read_bytes(), OF_LATER, HELP_ON_LATER),
         (["list", "--wide"], deck, WIDE),
         (["needs", "--deck"], deck, least),
         (["explain", "too", "many", "places"], b"", PLACES),
-        (["why", "--all"], CHANGES_BOTH.read_bytes(), text_of(CHANGES_BOTH.with_suffix(".all"))),
+        (
+            ["why", "--all"],
+            CHANGES_BOTH.read_bytes(),
+            text_of(CHANGES_BOTH.with_suffix(".all")),
+            said_beside(CHANGES_BOTH),
+        ),
         (["graph"], deck, text_of(EXAMPLES / "search-loop.dot")),
         (["needs"], deck, text_of(EXAMPLES / "search-loop.needs")),
         (["find", "--device", "2314"], image, FOUND),
@@ -116,7 +134,7 @@ def stopped():
 
 
 def command_cases(chanv):
-    for words, given, answer in commands():
+    for words, given, answer, *said in commands():
         complaints = (OUT_OF_MEMORY,)
         # the second once a file is read
         if SEARCH_LOOP in words:
@@ -124,7 +142,7 @@ def command_cases(chanv):
         yield Case(
             name=" ".join(map(str, ["chanv", *words])),
             words=[chanv, *words],
-            expected=Ran(1 if answer.startswith("no ") else 0, answer),
+            expected=Ran(1 if answer.startswith("no ") else 0, answer, "".join(said)),
             given=given,
             complaints=complaints,
             begun=answer if words[0] in ("list", "find") else "",
@@ -141,7 +159,7 @@ def advice_cases(chanv):
     exchanged = SEARCH_LOOP.read_bytes().replace(areas, turned)
     for name, given, expected, line in [
         ("notes", deck, Ran(0, "yes\n", NOTES), ""),
-        ("areas that seem exchanged", exchanged, Ran(1, EXCHANGED, SEEMS), ""),
+        ("areas that seem exchanged", exchanged, Ran(1, EXCHANGED, SEEMS + HELP_ON_EXCHANGED), ""),
         ("a hint", b"chanv deck 3\n", Ran(2, "", REFUSED + HINT), REFUSED),
     ]:
         yield Case(
