@@ -105,8 +105,8 @@ fn search_image<R: Read, W: Write>(
     }
 }
 
-/// The notes on an image that was searched, unless memory ran out for that, and what the limit is if
-/// a program is past it.
+/// The notes on an image that was searched, unless memory ran out for that, and what the limit is
+/// if a program is past it.
 fn notes_on_image(
     alloc: Global,
     options: &ImageOptions,

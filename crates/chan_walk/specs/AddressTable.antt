@@ -22,13 +22,13 @@ abbrev pub slot_of : ℕ → ℕ
 slot_of a = a % PAGE / 8
 
 -- the number in a row: 0 if there is no row, or if it ends before
-abbrev pub number_in : Option (Vec ℕ) → ℕ → ℕ
-number_in None i = 0
-number_in (Some row) i = slice_index row.items i
+abbrev pub number_in_row : Option (Vec ℕ) → ℕ → ℕ
+number_in_row None i = 0
+number_in_row (Some row) i = slice_index row.items i
 
 -- the number of the doubleword at a
 abbrev pub doubleword_in : List (Vec ℕ) → ℕ → ℕ
-doubleword_in pages a = number_in (slice_get pages (page_of a)) (slot_of a)
+doubleword_in pages a = number_in_row (slice_get pages (page_of a)) (slot_of a)
 
 -- the number that the pages have for an address: 0 for one that is no doubleword
 abbrev pub paged_in : AddressTable → ℕ → ℕ
@@ -42,4 +42,4 @@ number_at t a =
 -- each page has the same numbers
 abbrev pub HaveSameNumbers : List (Vec ℕ) → List (Vec ℕ) → Type 0
 HaveSameNumbers pages more =
-    (page i : ℕ) → number_in (slice_get more page) i ≡ number_in (slice_get pages page) i
+    (page i : ℕ) → number_in_row (slice_get more page) i ≡ number_in_row (slice_get pages page) i

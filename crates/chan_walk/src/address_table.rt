@@ -142,8 +142,8 @@ fn reach_page(alloc: Global, pages: &mut Vec<Vec<u32>>, page: usize) -> Result<(
     Ok(())
 }
 
-/// Makes a row reach a slot; the numbers that it hasn't are 0. Its length is a power of two, so that
-/// it never takes more memory than a whole row.
+/// Makes a row reach a slot; the numbers that it hasn't are 0. Its length is a power of two, so
+/// that it never takes more memory than a whole row.
 fn reach_slot(row: &mut Vec<u32>, slot: usize) -> Result<(), AllocError>
     requires { slot < 2 ^ 32 }
     ensures slot { OnOk result (slot < length row.new.items) }

@@ -5,7 +5,7 @@ use Rattle.std.proofs.lemmas.Bool.{cases_eq, eq-eqb, ne_eqb}
 use Rattle.std.proofs.lemmas.List.{get_or-set_other, get_or-set_same}
 use Rattle.std.specs.Global.{Vec}
 use Rattle.ccw_core.specs.declared.ccw.TheConstants.{STORAGE_LIMIT}
-use Rattle.chan_walk.specs.AddressTable.{doubleword_in, HaveSameNumbers, is_doubleword, number_at, number_in, page_of, paged_in, slot_of}
+use Rattle.chan_walk.specs.AddressTable.{doubleword_in, HaveSameNumbers, is_doubleword, number_at, number_in_row, page_of, paged_in, slot_of}
 use Rattle.chan_walk.specs.declared.address_table.AddressTable.{AddressTable}
 
 row_here : (pages : List (Vec ℕ)) (k : ℕ) (row : Vec ℕ) → k < length pages → slice_get (set pages k row) k ≡ Some row
@@ -30,19 +30,19 @@ one_slot a b first second page slot =
 -- the number of a doubleword that is set in the row of its page
 module _ (old pages : List (Vec ℕ)) (address n page slot : ℕ) (row new : Vec ℕ) (is : is_doubleword address ≡ true) (at_page : page ≡ page_of address)
     (at_slot : slot ≡ slot_of address) (below : page < length pages) (same : HaveSameNumbers old pages)
-    (kept : (i : ℕ) → slice_index row.items i ≡ number_in (slice_get pages page) i) (long : slot < length row.items)
+    (kept : (i : ℕ) → slice_index row.items i ≡ number_in_row (slice_get pages page) i) (long : slot < length row.items)
     (written : new.items ≡ set row.items slot n) where
   in_page : (a : ℕ) → page_of a ≡ page → doubleword_in (set pages page new) a ≡ slice_index (set row.items slot n) (slot_of a)
   in_page a e =
-      ap (λ p. number_in (slice_get (set pages page new) p) (slot_of a)) e ∙ ap (λ r. number_in r (slot_of a)) (row_here pages page new below)
+      ap (λ p. number_in_row (slice_get (set pages page new) p) (slot_of a)) e ∙ ap (λ r. number_in_row r (slot_of a)) (row_here pages page new below)
       ∙ ap (λ xs. slice_index xs (slot_of a)) written
 
   elsewhere : (a : ℕ) → is_doubleword a ≡ true → (a ≡ address → ⊥) → (page_of a ≡ page) ⊎ (page_of a ≡ page → ⊥)
       → doubleword_in (set pages page new) a ≡ doubleword_in old a
   elsewhere a d other (inl e) =
       in_page a e ∙ get_or-set_other row.items slot (slot_of a) n 0 (λ s. other (one_slot a address d is (e ∙ at_page) (s ∙ at_slot))) ∙ kept (slot_of a)
-      ∙ ap (λ p. number_in (slice_get pages p) (slot_of a)) (sym e) ∙ same (page_of a) (slot_of a)
-  elsewhere a d other (inr e) = ap (λ r. number_in r (slot_of a)) (row_elsewhere pages page new (page_of a) e) ∙ same (page_of a) (slot_of a)
+      ∙ ap (λ p. number_in_row (slice_get pages p) (slot_of a)) (sym e) ∙ same (page_of a) (slot_of a)
+  elsewhere a d other (inr e) = ap (λ r. number_in_row r (slot_of a)) (row_elsewhere pages page new (page_of a) e) ∙ same (page_of a) (slot_of a)
 
   here : doubleword_in (set pages page new) address ≡ n
   here = in_page address (sym at_page) ∙ ap (slice_index (set row.items slot n)) (sym at_slot) ∙ get_or-set_same row.items slot n 0 long
