@@ -17,8 +17,8 @@ pub enum Request<'a> {
     ShowNamed(Vec<&'a str>),
     /// Nothing: too many words were given for it.
     ManyCcws,
-    /// To read the deck of each of these in turn and do this with it. Each is the name of a file,
-    /// or `-`, which is standard input; so is none.
+    /// To read the deck of each of these files in turn and do this with it. `-` is standard input,
+    /// and an empty list means standard input too.
     Run(Action, Vec<&'a str>),
     /// To make a deck of an image of storage.
     Image(ImageRequest<'a>),
