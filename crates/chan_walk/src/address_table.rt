@@ -1,7 +1,7 @@
 //! A table of numbers by address, in which each is found at once.
 
-ghost use Rattle.std.specs.Prelude.{◌≡◌, ℕ, ◌<◌, ◌≤◌, ◌^◌, ◌==◌, if◌then◌else◌, OnOk, true, false};
-ghost use Rattle.std.specs.Prelude.{length, slice_index};
+ghost use Rattle.std.specs.Prelude.{◌≡◌, ℕ, ◌<◌, ◌≤◌, ◌^◌, ◌/◌, ◌==◌, if◌then◌else◌, OnOk};
+ghost use Rattle.std.specs.Prelude.{length, slice_index, true, false};
 ghost use Rattle.chan_walk.specs.AddressTable as table;
 ghost use Rattle.chan_walk.specs.AddressTable.{number_at};
 
@@ -142,16 +142,17 @@ fn reach_page(alloc: Global, pages: &mut Vec<Vec<u32>>, page: usize) -> Result<(
     Ok(())
 }
 
-/// Makes a row reach a slot; the numbers that it hasn't are 0. Its length is a power of two, so
-/// that it never takes more memory than a whole row.
+/// Makes a row reach a slot; the numbers that it hasn't are 0. It grows to at least twice what the
+/// slot needs, so that it seldom grows again, but never beyond a whole page.
 fn reach_slot(row: &mut Vec<u32>, slot: usize) -> Result<(), AllocError>
-    requires { slot < 2 ^ 32 }
+    requires { slot < PAGE / 8 }
     ensures slot { OnOk result (slot < length row.new.items) }
     ensures numbers { OnOk result ((i : ℕ) → slice_index row.new.items i
         ≡ slice_index row.old.items i) }
 {
     if row.len() <= slot {
-        row.resize((slot + 1).next_power_of_two(), 0)?;
+        let whole = (PAGE / 8) as usize;
+        row.resize((2 * slot + 2).next_power_of_two().min(whole), 0)?;
     }
     Ok(())
 }
