@@ -15,7 +15,7 @@ class Case(NamedTuple):
     name: str
     words: list
     expected: Ran
-    given: bytes | Path = b""
+    given: bytes = b""
     # one of these goes with a failed allocation
     complaints: tuple = ("",)
     # what may have been written by then is a front of this
@@ -41,11 +41,13 @@ class Growths:
     def __init__(self, folder):
         self.library = Path(folder) / "refuse_growth.so"
         self.count = Path(folder) / "count"
+        self.given = Path(folder) / "given"
         flags = ("-O2", "-Wall", "-shared", "-fPIC", "-ldl")
         compile_c(HERE / "c/refuse_growth.c", self.library, *flags)
 
     def run(self, words, given=b"", refused=0, and_after=False):
-        """What the run came to, and how many growths were asked for."""
+        """What the run came to, and how many growths were asked for. The input comes from a file: a
+        pipe would give it in other pieces each time, and these ask for other growths."""
         environment = {
             "LD_PRELOAD": str(self.library),
             "GROWTH_REFUSED": str(refused),
@@ -53,7 +55,8 @@ class Growths:
         }
         if and_after:
             environment["GROWTH_AFTER"] = "1"
-        ran = run(*words, given=given, env=environment)
+        self.given.write_bytes(given)
+        ran = run(*words, given=self.given, env=environment)
         return ran, int(self.count.read_text())
 
     def refuse_each(self, checks, case):
