@@ -3,8 +3,8 @@
 
     bench/decks.py FOLDER [NAME...]
 
-writes each NAME.deck, or all of them, to FOLDER, and verdicts.txt with a line for each: its file, a tab, and the
-verdict line that the rules give. The same decks come out each time.
+writes each NAME.deck, or all of them, to FOLDER, and verdicts.txt with a line for each: its file, a
+tab, and the verdict line that the rules give. The same decks come out each time.
 """
 
 import sys
@@ -52,7 +52,8 @@ def in_a_row(words, start=START):
 def deck(puts, storage, extents=((10, 19),), fetch=(), store=(), places=PLACES, start=START):
     """The lines of a deck on a 2314 with the mask 00, in the order of the grammar.
 
-    Where the program has another number of places, the deck is of version 2 and says it as its limit.
+    Where the program has another number of places, the deck is of version 2 and says it as its
+    limit.
     """
     yield f"chanv deck {1 if places == PLACES else 2}\ndevice 2314\nmask 00\n"
     yield f"start {start:06X}\n"
@@ -161,6 +162,24 @@ def comb(count=PLACES):
     return deck(in_a_row(words), storage, fetch=[(base, 5)], places=count, start=last)
 
 
+def scattered(count=PLACES):
+    """As many places as there may be, two by two all over the largest storage.
+
+    Each pair is a No Operation and a transfer to the next pair, which lies far from it.
+    """
+    slots = (STORAGE_LIMIT - START) // 16
+    # no factor in common with the slots
+    pairs = [START + 16 * (i * 647_963 % slots) for i in range(count // 2)]
+    puts = {}
+    for here, there in zip(pairs, pairs[1:]):
+        puts[here] = word(NO_OPERATION, 0, CHAIN_COMMAND, 1)
+        puts[here + DOUBLEWORD] = word(TRANSFER, there, 0, 0)
+    puts[pairs[-1]] = word(NO_OPERATION, 0, CHAIN_COMMAND, 1)
+    puts[pairs[-1] + DOUBLEWORD] = word(NO_OPERATION, 0, LAST, 1)
+    lines = (put(address, digits) for address, digits in sorted(puts.items()))
+    return deck(lines, STORAGE_LIMIT, places=count)
+
+
 def one_byte_areas(order):
     """Lent areas of one byte each that adjoin, and one read that needs all of them together."""
     lent, parts = 0x100000, 8
@@ -182,11 +201,15 @@ def areas_falling():
 
 def areas_mixed():
     """The same areas, in an order that looks like none."""
-    return one_byte_areas(i * 312_347 % MANY for i in range(MANY))  # no factor in common with 500,000
+    # no factor in common with 500,000
+    return one_byte_areas(i * 312_347 % MANY for i in range(MANY))
 
 
 def areas_apart(count=PLACES):
-    """500,000 areas of which no two adjoin, the last first, and as many places as there may be, each in another."""
+    """500,000 areas of which no two adjoin, the last first, and as many places as there may be.
+
+    Each place reads into another area.
+    """
     lent = 0x100000
     spread = MANY // count
     words = [word(READ_DATA, lent + 16 * spread * i, CHAIN_COMMAND, 8) for i in range(count - 1)]
@@ -196,20 +219,26 @@ def areas_apart(count=PLACES):
 
 
 def offends(count=PLACES):
-    """As many places as there may be, all of which offend but one transfer: each stores over the CCW reached last.
+    """As many places as there may be, all of which offend but one transfer.
 
-    That CCW has the least address, so the path to the first offence has all the places.
+    Each stores over the CCW reached last. That one has the least address, so the path to the first
+    offence has all the places.
     """
     words = [word(READ_DATA, START, CHAIN_COMMAND, 1)] * (count - 1) + [word(TRANSFER, START, 0, 0)]
     words[0] = word(READ_DATA, START, LAST, 1)
     _, storage = room_for(count)
-    return deck(in_a_row(words), storage, store=[(START, 1)], places=count, start=START + DOUBLEWORD)
+    store, start = [(START, 1)], START + DOUBLEWORD
+    return deck(in_a_row(words), storage, store=store, places=count, start=start)
 
 
 def extents():
-    """500,000 extents, and as many seeks as there may be places, all to a cylinder that only the last extent has."""
+    """500,000 extents, and as many seeks as there may be places.
+
+    All seek a cylinder that only the last extent has.
+    """
     argument = 0x20000
-    words = [word(SEEK, argument, CHAIN_COMMAND, 6)] * (PLACES - 1) + [word(SEEK, argument, LAST, 6)]
+    words = [word(SEEK, argument, CHAIN_COMMAND, 6)] * (PLACES - 1)
+    words.append(word(SEEK, argument, LAST, 6))
     pairs = [(i % 100, i % 100 + 100) for i in range(MANY - 1)] + [(202, 202)]
     puts = [*in_a_row(words), put(argument, "000000CA00130000")]
     return deck(puts, 0x40000, extents=pairs, fetch=[(argument, 6)])
@@ -223,6 +252,7 @@ DECKS = {
     "chain": chain,
     "ring": ring,
     "comb": comb,
+    "scattered": scattered,
     "areas-rising": areas_rising,
     "areas-falling": areas_falling,
     "areas-mixed": areas_mixed,
@@ -238,6 +268,7 @@ GROWING = [
     ("chain", chain),
     ("ring", ring),
     ("comb", comb),
+    ("scattered", scattered),
     ("areas-apart", areas_apart),
     ("offends", offends),
 ]

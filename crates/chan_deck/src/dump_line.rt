@@ -181,12 +181,12 @@ fn is_octal_digit(digit: &u8) -> bool {
 fn ends_before(rest: &[u8], bytes: &[Spelled]) -> bool {
     let is_marked = rest.first().is_some_and(|byte| MARKS.contains(byte));
     let is_short = rest.len() <= LONGEST_TEXT && bytes.len() <= LONGEST_TEXT;
-    is_marked || is_short && rest.starts_with(b"  ") && is_text(rest, bytes)
+    is_marked || is_short && rest.starts_with(b"  ") && is_text_of(rest, bytes)
 }
 
 /// Whether what is left of a line is two blanks or more and then the text of its bytes, of which
 /// blanks at the end may have gone.
-fn is_text(rest: &[u8], bytes: &[Spelled]) -> bool {
+fn is_text_of(rest: &[u8], bytes: &[Spelled]) -> bool {
     let text = rest.trim_ascii();
     let blanks = rest.trim_ascii_end().len().saturating_sub(text.len());
     let shown = bytes.iter().map(|spelled| match spelled.byte {

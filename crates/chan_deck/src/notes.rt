@@ -157,7 +157,7 @@ pub(crate) fn storage_note(alloc: Global, size: u32) -> Result<String, AllocErro
 
 /// The note that areas seem exchanged, for a verdict with this reason: what isn't lent one way is
 /// lent the other way. For other reasons the text is empty.
-pub fn exchange_note<'a>(reason: Reason) -> &'a str {
+pub fn exchange_note(reason: Reason) -> &'static str {
     match reason {
         Reason::FetchNotLent => LENT_FOR_STORING,
         Reason::StoreNotLent => LENT_FOR_FETCHING,
