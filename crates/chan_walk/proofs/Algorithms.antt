@@ -1,4 +1,3 @@
-pub mod AddressTable
 pub mod PlaceTable
 pub mod Following
 pub mod Visiting

@@ -36,7 +36,6 @@ pub mod Operand
 pub mod Evidence
 pub mod Tables
 pub mod Marks
-pub mod AddressTable
 pub mod PlaceTable
 pub mod Walk
 pub mod Lent

@@ -10,7 +10,6 @@
 //! ```
 #![tactic(auto)]
 
-mod address_table;
 mod argument;
 mod bits;
 mod direction;

@@ -1,81 +1,148 @@
 //! Where each place of a walk is found by its address.
 
-ghost use Rattle.std.specs.Prelude.{◌≡◌, ◌<◌, ◌^◌, ◌++◌, ◌∷◌, List, [], length, OnOk};
-ghost use Rattle.chan_walk.specs.AddressTable.{number_at};
+ghost use Rattle.std.specs.Prelude.{◌≡◌, ◌<◌, ◌^◌, ◌++◌, ◌∷◌, List, [], length, IfOk, IfErr, OnOk};
+ghost use Rattle.std.specs.Prelude.{Some};
+ghost use Rattle.chan_walk.specs.Argument.{Has};
 ghost use Rattle.chan_walk.specs.Look.{places_of_looks};
+ghost use Rattle.chan_walk.specs.PlaceTable as table;
 ghost use Rattle.chan_walk.specs.PlaceTable.{FindsPlaces, IsIndexOf};
 ghost use Rattle.chan_walk.specs.declared.place.Place as places;
 
-use crate::address_table::AddressTable;
 use crate::look::Look;
 use crate::place::Place;
 use std::alloc::{AllocError, Global};
 
-/// The places of a walk in the order in which they were found: which was the last one at an
-/// address, and which one was before it there.
+/// How many lists a table has at first.
+const FEW: usize = 16;
+
+/// With how many places of a list a place may be compared before the table gets more lists.
+const LONG: usize = 64;
+
+/// From how many lists on a table gets no more. The aligned places of a list then lie at some
+/// eight doublewords of storage.
+const MOST: usize = 262_144;
+
+/// 2 ^ 32 divided by the golden ratio: its multiples are spread evenly over 32 bits.
+const GOLDEN: u32 = 0x9E37_79B1;
+
+/// The places of a walk in the order in which they were found. Each is in a list with a few others,
+/// which its address tells.
 #[derive(Drop)]
 pub(crate) struct PlaceTable {
-    /// For each address one more than the index of the last place there; 0 if there is none.
-    last: AddressTable,
-    /// For each place one more than the index of the place before it at its address; 0 if there is
+    /// For each list one more than the index of the last place in it; 0 if it is empty.
+    last: Vec<u32>,
+    /// For each place one more than the index of the place before it in its list; 0 if there is
     /// none.
     before: Vec<u32>,
+    alloc: Global,
 }
 
 impl PlaceTable {
     /// The table of no places.
-    pub(crate) fn new(alloc: Global) -> PlaceTable
-        ensures { FindsPlaces result [] }
+    pub(crate) fn new(alloc: Global) -> Result<PlaceTable, AllocError>
+        ensures { IfOk result (λ t. FindsPlaces t []) }
     {
-        PlaceTable {
-            last: AddressTable::new(alloc),
+        PlaceTable::with_lists(alloc, FEW)
+    }
+
+    /// The table of no places that has so many lists.
+    fn with_lists(alloc: Global, lists: usize) -> Result<PlaceTable, AllocError>
+        requires some { 0 < lists }
+        requires few { lists < 2 ^ 32 }
+        ensures { IfOk result (λ t. FindsPlaces t []) }
+    {
+        let mut last = Vec::new(alloc);
+        last.resize(lists, 0)?;
+        Ok(PlaceTable {
+            last,
             before: Vec::new(alloc),
-        }
+            alloc,
+        })
     }
 
-    /// One more than the index of the last place at an address; 0 if there is none.
-    pub(crate) fn last_at(&self, address: u32) -> u32
-        ensures { result ≡ number_at self.now.last address }
-    {
-        self.last.get(address)
-    }
-
-    /// The index of a place, if it is one of those looked at. It costs a step for each place with
-    /// its address, of which there are at most eight.
+    /// The index of a place, if it is one of those looked at.
     pub(crate) fn index_of(&self, looks: &[Look], place: Place) -> Option<usize>
         requires { FindsPlaces self.now (places_of_looks looks.now) }
         ensures { IsIndexOf (places_of_looks looks.now) place result }
     {
-        self.index_from(looks, place, self.last_at(place.address))
+        self.search(looks, place).ok()
     }
 
-    /// The same, given what `last_at` says of the place's address.
-    pub(crate) fn index_from(&self, looks: &[Look], place: Place, last: u32) -> Option<usize>
-        requires finds { FindsPlaces self.now (places_of_looks looks.now) }
-        requires last { last ≡ number_at self.now.last place.address }
-        ensures { IsIndexOf (places_of_looks looks.now) place result }
+    /// The index of a place, if it is one of those looked at; otherwise with how many of them it
+    /// was compared.
+    pub(crate) fn search(&self, looks: &[Look], place: Place) -> Result<usize, usize>
+        requires { FindsPlaces self.now (places_of_looks looks.now) }
+        ensures found { IfOk result
+            (λ index. IsIndexOf (places_of_looks looks.now) place (Some index)) }
+        ensures none { IfErr result (λ _. IsIndexOf (places_of_looks looks.now) place None) }
     {
-        let mut end = last as usize;
+        let mut compared = 0;
+        let mut end = self.last[list_of(place.address, self.last.len())] as usize;
         while end > 0 {
             let index = end - 1;
             if looks[index].place().number() == place.number() {
-                return Some(index);
+                return Ok(index);
             }
             end = self.before[index] as usize;
+            compared += 1;
         }
-        None
+        Err(compared)
     }
 
-    /// Adds a place after the others, given what `last_at` says of its address.
-    pub(crate) fn push(&mut self, place: Place, last: u32) -> Result<(), AllocError>
+    /// Adds a place after those looked at, given with how many of them `search` compared it.
+    pub(crate) fn push(
+        &mut self,
+        looks: &[Look],
+        place: Place,
+        compared: usize,
+    ) -> Result<(), AllocError>
+        requires finds { FindsPlaces self.old (places_of_looks looks.now) }
+        requires few { length looks.now < 2 ^ 31 }
+        ensures { OnOk result (FindsPlaces self.new (places_of_looks looks.now ++ place ∷ [])) }
+    {
+        let is_full = looks.len() >= self.last.len() || compared > LONG;
+        if is_full && self.last.len() < MOST {
+            self.spread(looks)?;
+        }
+        self.hang(place)
+    }
+
+    /// Adds a place after the others, as the last of its list.
+    fn hang(&mut self, place: Place) -> Result<(), AllocError>
         requires places { (ps : List places.Place) × FindsPlaces self.old ps }
-        requires last { last ≡ number_at self.old.last place.address }
         requires few { length self.old.before.items < 2 ^ 31 }
         ensures { OnOk result ((ps : List places.Place) → FindsPlaces self.old ps
             → FindsPlaces self.new (ps ++ place ∷ [])) }
     {
-        self.before.push(last)?;
-        self.last.set(place.address, self.before.len() as u32)?;
+        let list = list_of(place.address, self.last.len());
+        self.before.push(self.last[list])?;
+        self.last[list] = self.before.len() as u32;
         Ok(())
     }
+
+    /// Parts the places looked at among four times as many lists.
+    fn spread(&mut self, looks: &[Look]) -> Result<(), AllocError>
+        requires some { 0 < length self.old.last.items }
+        requires few { length self.old.last.items < MOST }
+        requires places { length looks.now < 2 ^ 31 }
+        ensures { OnOk result (FindsPlaces self.new (places_of_looks looks.now)) }
+    {
+        let mut table = PlaceTable::with_lists(self.alloc, 4 * self.last.len())?;
+        for look in looks {
+            table.hang(look.place())?;
+        }
+        *self = table;
+        Ok(())
+    }
+}
+
+/// The list in which the places at an address are.
+fn list_of(address: u32, lists: usize) -> usize
+    requires some { 0 < lists }
+    requires few { lists < 2 ^ 32 }
+    ensures list { result ≡ table.list_of lists address }
+    ensures within { result < lists }
+{
+    let mixed = (address / 8).wrapping_mul(GOLDEN);
+    (u64::from(mixed) * lists as u64 / 0x1_0000_0000) as usize
 }

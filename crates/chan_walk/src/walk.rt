@@ -52,15 +52,13 @@ impl Walk {
             → HasNoRoomFor job.now.limit place (places_of_looks self.old.looks.items) }
     {
         if let Some(place) = place {
-            let last = self.table.last_at(place.address);
-            let found = self.table.index_from(self.looks.as_slice(), place, last);
-            if found.is_none() {
+            if let Err(compared) = self.table.search(self.looks.as_slice(), place) {
                 if self.looks.len() >= job.limit.get() as usize {
                     return Err(WalkError::TooManyPlaces);
                 }
+                self.table.push(self.looks.as_slice(), place, compared)?;
                 self.looks.push(look_by(job, Lending::Merged(lent), place))?;
                 self.found_from.push(from)?;
-                self.table.push(place, last)?;
             }
         }
         Ok(())
@@ -122,7 +120,7 @@ pub(crate) fn walk_all(alloc: Global, job: &Job) -> Result<Walk, WalkError>
     let mut walk = Walk {
         looks: Vec::new(alloc),
         found_from: Vec::new(alloc),
-        table: PlaceTable::new(alloc),
+        table: PlaceTable::new(alloc)?,
     };
     walk.add(job, &lent, Some(first_place(job)), 0)?;
     let mut at = 0;

@@ -1,130 +1,171 @@
--- Places found by their addresses: one more is found too, and from each place at an address the one before it.
-use Rattle.chan_walk.proofs.Names.{[], ap, arith, cases_lt, get_or, Has, if◌then◌else◌, inl, inr, is_some, length, length-append, List, None, Option, Place, place_number, places_of_looks, refl, Seen, slice_get, slice_get_read, slice_index, Some, subst, suc, sym, take, true, false, zero, ℕ, ◌++◌, ◌+◌, ◌-◌, ◌<◌, ◌==◌, ◌∙◌, ◌∷◌, ◌≡◌, ◌≤◌, ◌⊎◌}
-use Rattle.std.proofs.lemmas.Bool.{cases_eq, ne_eqb, eq-eqb}
+-- Places found by their addresses: one more is found too, and from each place of a list the one before it.
+use Rattle.chan_walk.proofs.Names.{[], ap, arith, cases_lt, get_or, Has, inl, inr, length, length-append, List, Place, place_number, places_of_looks, refl, Seen, slice_get, slice_get_read, slice_index, Some, subst, suc, sym, take, zero, ℕ, ◌*◌, ◌++◌, ◌+◌, ◌-◌, ◌%◌, ◌<◌, ◌∙◌, ◌∷◌, ◌≡◌, ◌≤◌, ◌⊎◌}
+use Rattle.std.specs.Prelude.{◌/◌, ◌^◌}
+use Rattle.std.proofs.Common.{set}
+use Rattle.std.proofs.Math.Nat.{mod-lt, mul-lt-mul_of_pos_right}
 use Rattle.std.proofs.Math.Seq.{get_or-append_seam}
-use Rattle.std.proofs.lemmas.List.{get_or_read, get_or_append_left, length-take, take-append-le, take_at}
+use Rattle.std.proofs.lemmas.Bool.{cases_eq}
+use Rattle.std.proofs.lemmas.List.{get_or_read, get_or_append_left, get_or-set_other, get_or-set_same, length-set, length-take, take-append-le, take_at}
+use Rattle.std.proofs.lemmas.Nat.{div_below}
 use Rattle.std.proofs.lemmas.Option.{slice_get_within}
 use Rattle.chan_walk.proofs.Algorithms.Looking.{number_of_places}
 use Rattle.chan_walk.proofs.Algorithms.Walking.{place_there}
-use Rattle.chan_walk.proofs.Theory.Lists.{at_has, front_at, has_at, last_at, pushed, same_at, taken_at}
+use Rattle.chan_walk.proofs.Theory.Lists.{at_has, front_at, last_at, pushed, same_at, taken_at}
 use Rattle.chan_walk.specs.declared.place_table.PlaceTable.{PlaceTable}
-use Rattle.chan_walk.specs.AddressTable.{number_at}
-use Rattle.chan_walk.specs.PlaceTable.{FindsPlaces, IsIndexOf, IsLastAt}
+use Rattle.chan_walk.specs.declared.place_table.TheConstants.{GOLDEN}
+use Rattle.chan_walk.specs.PlaceTable.{FindsPlaces, IsLastIn, list_of}
+
+pub list_within : (lists a : ℕ) → 0 < lists → list_of lists a < lists
+list_within lists a some =
+    let mixed : a / 8 * GOLDEN % 2 ^ 32 < 2 ^ 32 = mod-lt (a / 8 * GOLDEN) (omega arith) in
+    div_below (a / 8 * GOLDEN % 2 ^ 32 * lists) (2 ^ 32) lists (omega arith)
+    (omega (arith, mul-lt-mul_of_pos_right mixed some))
 
 -- ---- one place more
 
--- another place isn't the last at this address
-last_other : (ps : List Place) (q : Place) (a n : ℕ) → (a ≡ q.address → ⊥) → IsLastAt ps a n → IsLastAt (ps ++ q ∷ []) a n
-last_other ps q a n d l = record {
+-- it isn't the last of another list
+last_other : (lists : ℕ) (ps : List Place) (q : Place) (list n : ℕ) → (list_of lists q.address ≡ list → ⊥) → IsLastIn lists ps list n
+    → IsLastIn lists (ps ++ q ∷ []) list n
+last_other lists ps q list n d l = record {
   last = λ k is. let w = l.last k is in (w.0, front_at ps (q ∷ []) k w.0 w.1, w.2);
   none = λ i p le s. go i p le (pushed ps q p i s);
 }
   where
-    go : (i : ℕ) (p : Place) → n ≤ i → (slice_get ps i ≡ Some p) ⊎ ((i ≡ length ps) × (q ≡ p)) → p.address ≡ a → ⊥
+    go : (i : ℕ) (p : Place) → n ≤ i → (slice_get ps i ≡ Some p) ⊎ ((i ≡ length ps) × (q ≡ p)) → list_of lists p.address ≡ list → ⊥
     go i p le (inl s) = l.none i p le s
-    go i p le (inr s) = λ h. d (sym (ap (λ (z : Place). z.address) s.1 ∙ h))
+    go i p le (inr s) = λ h. d (ap (λ (z : Place). list_of lists z.address) s.1 ∙ h)
 
--- a place is the last at its own
-last_here : (ps : List Place) (q : Place) → IsLastAt (ps ++ q ∷ []) q.address (length ps + 1)
-last_here ps q = record {
-  last = λ k is. let e : length ps ≡ k = omega (arith, is) in (q, subst (λ z. slice_get (ps ++ q ∷ []) z ≡ Some q) e (last_at ps q), refl);
+-- it is the last of its own
+last_here : (lists : ℕ) (ps : List Place) (q : Place) (list : ℕ) → list_of lists q.address ≡ list → IsLastIn lists (ps ++ q ∷ []) list (length ps + 1)
+last_here lists ps q list in_list = record {
+  last = λ k is. let e : length ps ≡ k = omega (arith, is) in (q, subst (λ z. slice_get (ps ++ q ∷ []) z ≡ Some q) e (last_at ps q), in_list);
   none = λ i p le s. go i p le (pushed ps q p i s);
 }
   where
-    go : (i : ℕ) (p : Place) → length ps + 1 ≤ i → (slice_get ps i ≡ Some p) ⊎ ((i ≡ length ps) × (q ≡ p)) → p.address ≡ q.address → ⊥
+    go : (i : ℕ) (p : Place) → length ps + 1 ≤ i → (slice_get ps i ≡ Some p) ⊎ ((i ≡ length ps) × (q ≡ p)) → list_of lists p.address ≡ list → ⊥
     go i p le (inl s) h = absurd (omega (arith, le, slice_get_within ps i p s))
     go i p le (inr s) h = absurd (omega (arith, le, s.0))
 
-pub finds_more : (t u : PlaceTable) (ps : List Place) (q : Place) (before : ℕ) → FindsPlaces t ps
-    → before ≡ number_at t.last q.address → u.before.items ≡ t.before.items ++ before ∷ []
-    → ((a : ℕ) → number_at u.last a ≡ (if a == q.address then length ps + 1 else number_at t.last a)) → FindsPlaces u (ps ++ q ∷ [])
-finds_more t u ps q before f is more numbers = record {
+pub finds_more : (t u : PlaceTable) (ps : List Place) (q : Place) (list before : ℕ) → FindsPlaces t ps
+    → list ≡ list_of (length t.last.items) q.address → before ≡ slice_index t.last.items list → u.before.items ≡ t.before.items ++ before ∷ []
+    → u.last.items ≡ set t.last.items list (length ps + 1) → FindsPlaces u (ps ++ q ∷ [])
+finds_more t u ps q list before f in_list is more written = record {
+  some = omega (arith, lists, f.some);
+  few = omega (arith, lists, f.few);
   each = ap length more ∙ omega (arith, length-append t.before.items (before ∷ []), length-append ps (q ∷ []), f.each);
-  last = λ a. subst (IsLastAt (ps ++ q ∷ []) a) (sym (numbers a)) (last a (cases_eq a q.address));
-  before = λ i p s. subst (λ xs. IsLastAt (take i (ps ++ q ∷ [])) p.address (slice_index xs i)) (sym more) (old i p (pushed ps q p i s));
+  last = λ k low. subst (λ m. IsLastIn m (ps ++ q ∷ []) k (slice_index u.last.items k)) (sym lists)
+      (subst (λ xs. IsLastIn n (ps ++ q ∷ []) k (slice_index xs k)) (sym written) (last k (omega (arith, lists, low)) (cases_eq k list)));
+  before = λ i p s. subst (λ m. IsLastIn m (take i (ps ++ q ∷ [])) (list_of m p.address) (slice_index u.before.items i)) (sym lists)
+      (subst (λ xs. IsLastIn n (take i (ps ++ q ∷ [])) (list_of n p.address) (slice_index xs i)) (sym more) (old i p (pushed ps q p i s)));
 }
   where
-    last : (a : ℕ) → (a ≡ q.address) ⊎ (a ≡ q.address → ⊥) → IsLastAt (ps ++ q ∷ []) a (if a == q.address then length ps + 1 else number_at t.last a)
-    last a (inl e) =
-        let so : (a == q.address) ≡ true = eq-eqb a q.address e in
-        rw so (subst (λ z. IsLastAt (ps ++ q ∷ []) z (length ps + 1)) (sym e) (last_here ps q))
-    last a (inr d) =
-        let so : (a == q.address) ≡ false = ne_eqb a q.address d in
-        rw so (last_other ps q a (number_at t.last a) d (f.last a))
+    n : ℕ
+    n = length t.last.items
+
+    lists : length u.last.items ≡ n
+    lists = ap length written ∙ length-set t.last.items list (length ps + 1)
+
+    within : list < n
+    within = omega (arith, in_list, list_within n q.address f.some)
+
+    last : (k : ℕ) → k < n → (k ≡ list) ⊎ (k ≡ list → ⊥) → IsLastIn n (ps ++ q ∷ []) k (slice_index (set t.last.items list (length ps + 1)) k)
+    last k low (inl e) =
+        subst (IsLastIn n (ps ++ q ∷ []) k) (sym (ap (slice_index (set t.last.items list (length ps + 1))) e ∙ get_or-set_same t.last.items list (length ps + 1) 0 within))
+        (last_here n ps q k (sym in_list ∙ sym e))
+    last k low (inr d) =
+        subst (IsLastIn n (ps ++ q ∷ []) k) (sym (get_or-set_other t.last.items list k (length ps + 1) 0 d))
+        (last_other n ps q k (slice_index t.last.items k) (λ e. d (sym e ∙ sym in_list)) (f.last k low))
 
     old : (i : ℕ) (p : Place) → (slice_get ps i ≡ Some p) ⊎ ((i ≡ length ps) × (q ≡ p))
-        → IsLastAt (take i (ps ++ q ∷ [])) p.address (slice_index (t.before.items ++ before ∷ []) i)
+        → IsLastIn n (take i (ps ++ q ∷ [])) (list_of n p.address) (slice_index (t.before.items ++ before ∷ []) i)
     old i p (inl s) =
         let low : i < length ps = slice_get_within ps i p s in
-        subst (λ z. IsLastAt z p.address (slice_index (t.before.items ++ before ∷ []) i)) (sym (take-append-le i ps (q ∷ []) (omega (arith, low))))
-        (subst (IsLastAt (take i ps) p.address) (sym (get_or_append_left t.before.items (before ∷ []) 0 i (omega (arith, low, f.each)))) (f.before i p s))
+        subst (λ z. IsLastIn n z (list_of n p.address) (slice_index (t.before.items ++ before ∷ []) i)) (sym (take-append-le i ps (q ∷ []) (omega (arith, low))))
+        (subst (IsLastIn n (take i ps) (list_of n p.address)) (sym (get_or_append_left t.before.items (before ∷ []) 0 i (omega (arith, low, f.each))))
+        (f.before i p s))
     old i p (inr s) =
         let here : slice_index (t.before.items ++ before ∷ []) i ≡ before
         = ap (slice_index (t.before.items ++ before ∷ [])) (s.0 ∙ sym f.each) ∙ get_or-append_seam t.before.items before [] 0 in
-        subst (λ z. IsLastAt z p.address (slice_index (t.before.items ++ before ∷ []) i)) (sym (take_at ps (q ∷ []) i (sym s.0)))
-        (subst (IsLastAt ps p.address) (sym (here ∙ is ∙ ap (λ (z : Place). number_at t.last z.address) s.1)) (f.last p.address))
+        let at : list ≡ list_of n p.address = in_list ∙ ap (λ (z : Place). list_of n z.address) s.1 in
+        subst (λ z. IsLastIn n z (list_of n p.address) (slice_index (t.before.items ++ before ∷ []) i)) (sym (take_at ps (q ∷ []) i (sym s.0)))
+        (subst (λ k. IsLastIn n ps k (slice_index (t.before.items ++ before ∷ []) i)) at
+        (subst (IsLastIn n ps list) (sym (here ∙ is)) (f.last list within)))
 
--- ---- from a place at an address to the one before it
+-- ---- from a place of a list to the one before it
 
--- from the index end on no place of the list is this one, and the one before end is at its address
-pub record IsLeftBelow (ps : List Place) (p : Place) (end : ℕ) : Type 0 where
+-- from the index end on no place is this one, and the one before end is in its list
+pub record IsLeftBelow (lists : ℕ) (ps : List Place) (p : Place) (end : ℕ) : Type 0 where
   pub within : end ≤ length ps
   pub others : (i : ℕ) → end ≤ i → slice_get ps i ≡ Some p → ⊥
-  pub here : (k : ℕ) → end ≡ k + 1 → (q : Place) × (slice_get ps k ≡ Some q) × (q.address ≡ p.address)
+  pub here : (k : ℕ) → end ≡ k + 1 → (q : Place) × (slice_get ps k ≡ Some q) × (list_of lists q.address ≡ list_of lists p.address)
 
-last_within : (ps : List Place) (a n : ℕ) → IsLastAt ps a n → n ≤ length ps
-last_within ps a zero l = omega arith
-last_within ps a (suc k) l = let w = l.last k (omega arith) in omega (arith, slice_get_within ps k w.0 w.1)
+last_within : (lists : ℕ) (ps : List Place) (list n : ℕ) → IsLastIn lists ps list n → n ≤ length ps
+last_within lists ps list zero l = omega arith
+last_within lists ps list (suc k) l = let w = l.last k (omega arith) in omega (arith, slice_get_within ps k w.0 w.1)
 
-pub left_first : (ps : List Place) (p : Place) (end : ℕ) → IsLastAt ps p.address end → IsLeftBelow ps p end
-left_first ps p end l = record { within = last_within ps p.address end l; others = λ i le s. l.none i p le s refl; here = l.last }
+left_first : (lists : ℕ) (ps : List Place) (p : Place) (end : ℕ) → IsLastIn lists ps (list_of lists p.address) end → IsLeftBelow lists ps p end
+left_first lists ps p end l = record {
+  within = last_within lists ps (list_of lists p.address) end l;
+  others = λ i le s. l.none i p le s refl;
+  here = l.last;
+}
 
-pub left_before : (t : PlaceTable) (ps : List Place) (p q : Place) (end : ℕ) → FindsPlaces t ps → IsLeftBelow ps p end → 0 < end
-    → slice_get ps (end - 1) ≡ Some q → (q ≡ p → ⊥) → IsLeftBelow ps p (slice_index t.before.items (end - 1)) × (slice_index t.before.items (end - 1) < end)
+-- the search begins at the last place of the list
+pub left_last : (t : PlaceTable) (ps : List Place) (p : Place) (list end : ℕ) → FindsPlaces t ps → list ≡ list_of (length t.last.items) p.address
+    → end ≡ get_or t.last.items list end → IsLeftBelow (length t.last.items) ps p end
+left_last t ps p list end f in_list is =
+    let low : list < length t.last.items = omega (arith, in_list, list_within (length t.last.items) p.address f.some) in
+    left_first (length t.last.items) ps p end
+    (subst (λ k. IsLastIn (length t.last.items) ps k end) in_list
+    (subst (IsLastIn (length t.last.items) ps list) (sym (get_or_read t.last.items list end low is 0)) (f.last list low)))
+
+left_before : (t : PlaceTable) (ps : List Place) (p q : Place) (end : ℕ) → FindsPlaces t ps → IsLeftBelow (length t.last.items) ps p end → 0 < end
+    → slice_get ps (end - 1) ≡ Some q → (q ≡ p → ⊥)
+    → IsLeftBelow (length t.last.items) ps p (slice_index t.before.items (end - 1)) × (slice_index t.before.items (end - 1) < end)
 left_before t ps p q end f l some here other = (
   record { within = omega (arith, low, l.within); others = λ i le s. others i (cases_lt i (end - 1)) (cases_lt (end - 1) i) le s; here = at },
   omega (arith, low, some),
 )
   where
+    lists : ℕ
+    lists = length t.last.items
+
     n : ℕ
     n = slice_index t.before.items (end - 1)
 
-    there : q.address ≡ p.address
-    there = let w = l.here (end - 1) (omega (arith, some)) in ap (λ (z : Place). z.address) (same_at ps (end - 1) (end - 1) q w.0 here w.1 refl) ∙ w.2
+    there : list_of lists q.address ≡ list_of lists p.address
+    there = let w = l.here (end - 1) (omega (arith, some)) in
+        ap (λ (z : Place). list_of lists z.address) (same_at ps (end - 1) (end - 1) q w.0 here w.1 refl) ∙ w.2
 
-    before : IsLastAt (take (end - 1) ps) p.address n
-    before = subst (λ a. IsLastAt (take (end - 1) ps) a n) there (f.before (end - 1) q here)
+    before : IsLastIn lists (take (end - 1) ps) (list_of lists p.address) n
+    before = subst (λ k. IsLastIn lists (take (end - 1) ps) k n) there (f.before (end - 1) q here)
 
     low : n ≤ end - 1
-    low = omega (arith, last_within (take (end - 1) ps) p.address n before, length-take (end - 1) ps)
+    low = omega (arith, last_within lists (take (end - 1) ps) (list_of lists p.address) n before, length-take (end - 1) ps)
 
     others : (i : ℕ) → (i < end - 1) ⊎ (end - 1 ≤ i) → (end - 1 < i) ⊎ (i ≤ end - 1) → n ≤ i → slice_get ps i ≡ Some p → ⊥
     others i (inl a) b le s = before.none i p le (taken_at ps (end - 1) i a ∙ s) refl
     others i (inr a) (inl b) le s = l.others i (omega arith) s
     others i (inr a) (inr b) le s = other (same_at ps (end - 1) i q p here s (omega arith))
 
-    at : (k : ℕ) → n ≡ k + 1 → (q : Place) × (slice_get ps k ≡ Some q) × (q.address ≡ p.address)
+    at : (k : ℕ) → n ≡ k + 1 → (q : Place) × (slice_get ps k ≡ Some q) × (list_of lists q.address ≡ list_of lists p.address)
     at k e = let w = before.last k e in (w.0, sym (taken_at ps (end - 1) k (omega (arith, low))) ∙ w.1, w.2)
 
-pub none_left : (ps : List Place) (p : Place) → IsLeftBelow ps p 0 → Has ps p → ⊥
-none_left ps p l h = let w = at_has ps p h in l.others w.0 (omega arith) w.2
+pub none_left : (lists : ℕ) (ps : List Place) (p : Place) → IsLeftBelow lists ps p 0 → Has ps p → ⊥
+none_left lists ps p l h = let w = at_has ps p h in l.others w.0 (omega arith) w.2
 
 -- the look before an index is at its place
-pub look_below : (ls : List Seen) (p : Place) (end : ℕ) (l : Seen) → IsLeftBelow (places_of_looks ls) p end → 0 < end → l ≡ get_or ls (end - 1) l
-    → slice_get (places_of_looks ls) (end - 1) ≡ Some l.place
-look_below ls p end l left some is =
+pub look_below : (lists : ℕ) (ls : List Seen) (p : Place) (end : ℕ) (l : Seen) → IsLeftBelow lists (places_of_looks ls) p end → 0 < end
+    → l ≡ get_or ls (end - 1) l → slice_get (places_of_looks ls) (end - 1) ≡ Some l.place
+look_below lists ls p end l left some is =
     place_there ls (end - 1) l (slice_get_read ls (length ls) (end - 1) l refl (omega (arith, left.within, number_of_places ls, some)) is)
 
 -- and if that is another place, the search goes on before it
-pub left_look : (t : PlaceTable) (ls : List Seen) (p q : Place) (end b : ℕ) → FindsPlaces t (places_of_looks ls) → IsLeftBelow (places_of_looks ls) p end
-    → 0 < end → slice_get (places_of_looks ls) (end - 1) ≡ Some q → (place_number q ≡ place_number p → ⊥)
-    → b ≡ get_or t.before.items (end - 1) b → IsLeftBelow (places_of_looks ls) p b × (b < end)
+pub left_look : (t : PlaceTable) (ls : List Seen) (p q : Place) (end b : ℕ) → FindsPlaces t (places_of_looks ls)
+    → IsLeftBelow (length t.last.items) (places_of_looks ls) p end → 0 < end → slice_get (places_of_looks ls) (end - 1) ≡ Some q
+    → (place_number q ≡ place_number p → ⊥) → b ≡ get_or t.before.items (end - 1) b
+    → IsLeftBelow (length t.last.items) (places_of_looks ls) p b × (b < end)
 left_look t ls p q end b f left some here other is =
     let read = get_or_read t.before.items (end - 1) b (omega (arith, f.each, left.within, some)) is 0 in
-    subst (λ n. IsLeftBelow (places_of_looks ls) p n × (n < end)) (sym read)
+    subst (λ n. IsLeftBelow (length t.last.items) (places_of_looks ls) p n × (n < end)) (sym read)
     (left_before t (places_of_looks ls) p q end f left some here (λ e. other (ap place_number e)))
-
--- a place with an index is one of the list
-pub index_has : (ps : List Place) (p : Place) (o : Option ℕ) → IsIndexOf ps p o → is_some o ≡ true → Has ps p
-index_has ps p None is some = absurd (cc)
-index_has ps p (Some k) is some = has_at ps k p is
