@@ -18,10 +18,12 @@ use Rattle.chan_walk.proofs.Theory.OwnFaults.{first_reason-append}
 pub found_here : (j : Job) (p : Place) (c : Fields) → ccw_at (storage_of j) p.address ≡ Some c → c ≡ ccw_of j p
 found_here j p c h = (ccw_at-some (storage_of j) p.address c h).2
 
-pub found_or : (j : Job) (p : Place) (r t : Option Reason) (o q : Option Evidence)
-    → GoTogether j p r o → GoTogether j p t q → GoTogether j p (option_or r t) (option_or o q)
-found_or j p r t None q h k = rw h k
-found_or j p r t (Some e) q h k = (ap (λ z. option_or z t) h.0, h.1)
+-- what the first of two parts finds counts, and what the second finds only if the first finds nothing
+pub found_first : (j : Job) (p : Place) (r t : Option Reason) (e : Evidence) → GoTogether j p r (Some e) → GoTogether j p (option_or r t) (Some e)
+found_first j p r t e h = (ap (λ z. option_or z t) h.0, h.1)
+
+pub found_second : (j : Job) (p : Place) (r t : Option Reason) (o : Option Evidence) → r ≡ None → GoTogether j p t o → GoTogether j p (option_or r t) o
+found_second j p r t o h k = rw h k
 
 -- what the channel's check finds is the own fault
 pub own_of_check : (j : Job) (p : Place) (e : Evidence) → GoTogether j p (program_check (storage_of j) p) (Some e) → IsOwnFault j p (Some e)
@@ -35,32 +37,53 @@ own_of_transfer j p h t =
     let a = argument_exists (storage_of j) p.address in
     record { reason = None; fault = (a.0, a.1, rw (h, t) refl); found = refl }
 
--- the three parts of the table, one after another
-pub own_of_parts : (j : Job) (p : Place) (c : Fields) (command lent operand : Option Evidence) → c ≡ ccw_of j p → program_check (storage_of j) p ≡ None
-    → is_transfer c ≡ false → GoTogether j p (first_reason (command_faults j p c)) command → GoTogether j p (first_reason (lent_faults j p c)) lent
-    → ((x : Option (List ℕ)) × HasArgument (storage_of j) p.address x × GoTogether j p (first_reason (operand_faults j p c x)) operand)
-    → IsOwnFault j p (option_or (option_or command lent) operand)
-own_of_parts j p c command lent operand e h t f g k =
-    let tests : first_reason (table_of_own j p c k.0)
-    ≡ option_or (option_or (first_reason (command_faults j p c)) (first_reason (lent_faults j p c))) (first_reason (operand_faults j p c k.0)) =
-    first_reason-append (command_faults j p c ++ lent_faults j p c) (operand_faults j p c k.0)
-    ∙ ap (λ o. option_or o (first_reason (operand_faults j p c k.0))) (first_reason-append (command_faults j p c) (lent_faults j p c))
-    in
-    let r = first_reason (table_of_own j p c k.0) in
-    let whole : option_or (program_check (storage_of j) p) (if is_transfer c then None else r) ≡ r =
-    ap (λ o. option_or o (if is_transfer c then None else r)) h ∙ cond-false _ _ _ t
-    in
-    let found = found_or j p _ _ (option_or command lent) operand (found_or j p _ _ command lent f g) k.2 in
-    record {
-      reason = r;
-      fault = (
-        k.0,
-        k.1,
-        subst (λ w. option_or (program_check (storage_of j) p) (if is_transfer w then None else first_reason (table_of_own j p w k.0))
-            ≡ r) e whole,
-      );
-      found = subst (λ z. GoTogether j p z (option_or (option_or command lent) operand)) (sym tests) found;
-    }
+-- the three parts of the table, one after another, at a place that passes and is no transfer
+module _ (j : Job) (p : Place) (c : Fields) (here : c ≡ ccw_of j p) (passes : program_check (storage_of j) p ≡ None) (other : is_transfer c ≡ false) where
+  abbrev command : Option Reason
+  command = first_reason (command_faults j p c)
+
+  abbrev lent : Option Reason
+  lent = first_reason (lent_faults j p c)
+
+  abbrev operand : Option (List ℕ) → Option Reason
+  operand x = first_reason (operand_faults j p c x)
+
+  own_of_table : (x : Option (List ℕ)) (o : Option Evidence) → HasArgument (storage_of j) p.address x
+      → GoTogether j p (option_or (option_or command lent) (operand x)) o → IsOwnFault j p o
+  own_of_table x o has found =
+      let r = first_reason (table_of_own j p c x) in
+      let tests : r ≡ option_or (option_or command lent) (operand x) =
+      first_reason-append (command_faults j p c ++ lent_faults j p c) (operand_faults j p c x)
+      ∙ ap (λ o. option_or o (operand x)) (first_reason-append (command_faults j p c) (lent_faults j p c))
+      in
+      let whole : option_or (program_check (storage_of j) p) (if is_transfer c then None else r) ≡ r =
+      ap (λ o. option_or o (if is_transfer c then None else r)) passes ∙ cond-false _ _ _ other
+      in
+      record {
+        reason = r;
+        fault = (
+          x,
+          has,
+          subst (λ w. option_or (program_check (storage_of j) p) (if is_transfer w then None else first_reason (table_of_own j p w x))
+              ≡ r) here whole,
+        );
+        found = subst (λ z. GoTogether j p z o) (sym tests) found;
+      }
+
+  pub own_of_command : (e : Evidence) → GoTogether j p command (Some e) → IsOwnFault j p (Some e)
+  own_of_command e h =
+      let a = argument_exists (storage_of j) p.address in
+      own_of_table a.0 (Some e) a.1 (found_first j p (option_or command lent) (operand a.0) e (found_first j p command lent e h))
+
+  pub own_of_lent : (e : Evidence) → command ≡ None → GoTogether j p lent (Some e) → IsOwnFault j p (Some e)
+  own_of_lent e none h =
+      let a = argument_exists (storage_of j) p.address in
+      own_of_table a.0 (Some e) a.1 (found_first j p (option_or command lent) (operand a.0) e (found_second j p command lent (Some e) none h))
+
+  pub own_of_operand : (o : Option Evidence) → command ≡ None → lent ≡ None
+      → ((x : Option (List ℕ)) × HasArgument (storage_of j) p.address x × GoTogether j p (operand x) o) → IsOwnFault j p o
+  own_of_operand o none more k =
+      own_of_table k.0 o k.1 (found_second j p (option_or command lent) (operand k.0) o (ap (λ r. option_or r lent) none ∙ more) k.2)
 
 -- ---- the argument of an operation
 
