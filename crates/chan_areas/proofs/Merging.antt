@@ -5,7 +5,7 @@ use Rattle.std.specs.Cmp.Derive.{one_truth}
 use Rattle.std.specs.List.{All}
 use Rattle.std.specs.List.Sorted.{IsNonDecreasingBy}
 use Rattle.std.proofs.lemmas.Bool.{cases_lt, or_cases, or_left, or_right, and_from, le-leb, lt-ltb, both_ways}
-use Rattle.std.proofs.lemmas.List.{get_or-set_other, get_or_default, length-set, take_more, take_more_set}
+use Rattle.std.proofs.lemmas.List.{get_or-set_other, get_or_default, length-set, take_all, take_more, take_more_set}
 use Rattle.std.proofs.lemmas.List.Elements.{All-append, All-cons, All-head, All-nil, All-tail}
 use Rattle.std.proofs.lemmas.List.Folds.{list_any-append}
 use Rattle.std.proofs.lemmas.List.Sorted.{list_any-IsPermutation}
@@ -69,6 +69,16 @@ run_ends xs ys run area e b = ap (λ z. lies_in (z ++ area ∷ []) b) e ∙ ap (
 pub run_grows : (xs : List Area) (run area r : Area) → r.start ≡ run.start → end_of r ≡ end_of area → run.start ≤ area.start
     → area.start ≤ end_of run → end_of run ≤ end_of area → HaveSameBytes (xs ++ r ∷ []) (xs ++ run ∷ area ∷ [])
 run_grows xs run area r s e order near far b = search (rules, same_after, one_for_two, cases_lt)
+
+-- the last area of a list grows
+pub last_grows : (areas : List Area) (k : ℕ) (run area r : Area) → k + 1 ≡ length areas → run ≡ get_or areas k run → IsOneRun run area r
+    → HaveSameBytes (set areas k r) (areas ++ area ∷ [])
+last_grows areas k run area r e is one b =
+    let whole : areas ≡ take k areas ++ run ∷ [] =
+    sym (take_all (k + 1) areas (omega (arith, e))) ∙ take_more areas k run (omega (arith, e)) ∙ ap (λ z. take k areas ++ z ∷ []) (sym is) in
+    let grown : set areas k r ≡ take k areas ++ r ∷ [] =
+    sym (take_all (k + 1) (set areas k r) (omega (arith, e, length-set areas k r))) ∙ take_more_set areas k r (omega (arith, e)) in
+    ap (λ z. lies_in z b) grown ∙ one.bytes (take k areas) b ∙ sym (run_ends (take k areas) areas run area whole b)
 
 -- ---- what is merged so far
 

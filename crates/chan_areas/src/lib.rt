@@ -12,4 +12,4 @@
 mod clip;
 mod merged;
 
-pub use crate::merged::{Merged, end_of};
+pub use crate::merged::{Merged, add_area, end_of};

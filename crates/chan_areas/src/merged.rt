@@ -1,7 +1,7 @@
 //! Areas merged into one list, in which a byte or a range is found by binary search.
 
 ghost use Rattle.std.specs.Prelude.{◌≡◌, ◌<◌, ◌≤◌, ◌+◌, ◌++◌, ◌∷◌, ◌^◌, ◌↔◌, List, [], false};
-ghost use Rattle.std.specs.Prelude.{true, length, take, IfOk, IsTrue};
+ghost use Rattle.std.specs.Prelude.{true, length, take, IfOk, IsTrue, OnOk};
 ghost use Rattle.std.specs.List.{All};
 ghost use Rattle.std.specs.List.Sorted.{IsNonDecreasingBy};
 ghost use Rattle.ccw_core.specs.Areas as areas;
@@ -154,6 +154,26 @@ impl Merged {
             len: end - start,
         })
     }
+}
+
+/// Adds an area to a list that is to be merged. Where it goes on from the last area of the list,
+/// that one grows instead, so that a list of areas in order stays short.
+pub fn add_area(areas: &mut Vec<Area>, area: Area) -> Result<(), AllocError>
+    requires low { All (EndsBelow (2 ^ 32)) areas.old.items }
+    requires fits { EndsBelow (2 ^ 32) area }
+    ensures low { OnOk result (All (EndsBelow (2 ^ 32)) areas.new.items) }
+    ensures bytes { OnOk result (HaveSameBytes areas.new.items (areas.old.items ++ area ∷ [])) }
+{
+    if let Some(last) = areas.len().checked_sub(1) {
+        if areas[last].start <= area.start {
+            if let Some(run) = join(areas[last], area) {
+                areas[last] = run;
+                return Ok(());
+            }
+        }
+    }
+    areas.push(area)?;
+    Ok(())
 }
 
 /// The run that a run and the next area are together; `None` if a byte lies between them.

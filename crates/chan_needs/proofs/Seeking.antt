@@ -90,7 +90,7 @@ is_seek_of k h = search rules
 pub adds_cylinder : (j : Job) (p : Place) (o : Option ℕ) (m : ℕ) (old new : List Area)
     → GoesTo j p o → o ≡ Some m → new ≡ old ++ byte_area m ∷ [] → AddsBytes old new (SeeksCylinder j p)
 adds_cylinder j p o m old new goes e is =
-    adds_areas old (byte_area m ∷ []) new (SeeksCylinder j p) is
+    adds_areas old (byte_area m ∷ []) new (SeeksCylinder j p) (λ b. ap (λ z. lies_in z b) is)
     (λ b. ((λ h. to b ((lies_in-bytes (m ∷ []) b).0 h)), λ h. (lies_in-bytes (m ∷ []) b).1 (from b h)))
   where
     to : (b : ℕ) → Has (m ∷ []) b → SeeksCylinder j p b

@@ -1,13 +1,15 @@
 //! The guard: which bytes of storage a program may not change while it runs.
 
-ghost use Rattle.std.specs.Prelude.{◌≡◌, ◌<◌, ◌↔◌, ◌^◌, ◌++◌, map, IfOk, OnOk, IsTrue};
+ghost use Rattle.std.specs.Prelude.{◌≡◌, ℕ, ◌<◌, ◌↔◌, ◌^◌, ◌++◌, map, IfOk, OnOk, IsTrue};
+ghost use Rattle.std.specs.Prelude.{slice_index};
 ghost use Rattle.std.specs.List.{All};
 ghost use Rattle.chan_walk.specs.Places.{AreReachable};
 ghost use Rattle.chan_walk.specs.Guard.{AddsBytes, GuardAreas, Guards, IsArgumentByteOf};
 ghost use Rattle.chan_walk.specs.Guard.{IsCcwByteOf, byte_area};
+ghost use Rattle.ccw_core.specs.declared.ccw.TheConstants.{STORAGE_LIMIT};
 ghost use Rattle.chan_walk.specs.Places.{AreReached};
 ghost use Rattle.chan_walk.specs.Look.{AreLooks, IsLook, places_of_looks};
-ghost use Rattle.chan_areas.specs.Merged.{EndsBelow, IsMerged, Meets};
+ghost use Rattle.chan_areas.specs.Merged.{EndsBelow, HaveSameBytes, IsMerged, Meets};
 ghost use Rattle.chan_walk.specs.declared.job.Job.{Job};
 
 use crate::job::Job;
@@ -15,7 +17,7 @@ use crate::lent::{Lending, Lent};
 use crate::look::{Look, look_by};
 use crate::places::Explored;
 use ccw_core::Area;
-use chan_areas::Merged;
+use chan_areas::{Merged, add_area};
 use std::alloc::{AllocError, Global};
 use std::marker::Model;
 
@@ -125,10 +127,8 @@ pub(crate) fn add_ccw(areas: &mut Vec<Area>, look: &Look) -> Result<(), AllocErr
         → AddsBytes areas.old.items areas.new.items (IsCcwByteOf j look.now.place)) }
 {
     if look.ccw().is_some() {
-        areas.push(Area {
-            start: look.place().address,
-            len: 8,
-        })?;
+        let start = look.place().address;
+        add_area(areas, Area { start, len: 8 })?;
     }
     Ok(())
 }
@@ -144,16 +144,17 @@ pub(crate) fn add_argument(areas: &mut Vec<Area>, look: &Look) -> Result<(), All
     add_bytes(areas, look.argument())
 }
 
-/// Adds an area of one byte for each address.
-#[tactic(auto, using(std::proofs::lemmas::List::map_more))]
+/// Adds the bytes at these addresses.
 fn add_bytes(areas: &mut Vec<Area>, addresses: &[u32]) -> Result<(), AllocError>
-    ensures { OnOk result (areas.new.items ≡ areas.old.items ++ map byte_area addresses.now) }
+    requires low { All (EndsBelow (2 ^ 32)) areas.old.items }
+    requires addresses { (i : ℕ) → slice_index addresses.now i < STORAGE_LIMIT }
+    ensures low { OnOk result (All (EndsBelow (2 ^ 32)) areas.new.items) }
+    ensures bytes { OnOk result
+        (HaveSameBytes areas.new.items (areas.old.items ++ map byte_area addresses.now)) }
 {
     for address in addresses {
-        areas.push(Area {
-            start: *address,
-            len: 1,
-        })?;
+        let start = *address;
+        add_area(areas, Area { start, len: 1 })?;
     }
     Ok(())
 }

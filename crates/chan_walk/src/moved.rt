@@ -16,7 +16,7 @@ use crate::guard::Guard;
 use crate::look::Look;
 use crate::place::data_of;
 use ccw_core::Area;
-use chan_areas::Merged;
+use chan_areas::{Merged, add_area};
 use std::alloc::{AllocError, Global};
 
 /// The bytes of the data that reachable CCWs move one way, as a merged list.
@@ -40,7 +40,7 @@ fn add_range(ranges: &mut Vec<Area>, look: &Look, is_so: bool) -> Result<(), All
         (IsSeenByte look.now is_so)) }
 {
     match look.ccw() {
-        Some(ccw) if is_so => ranges.push(data_of(&ccw))?,
+        Some(ccw) if is_so => add_area(ranges, data_of(&ccw))?,
         _ => {}
     }
     Ok(())

@@ -1,10 +1,11 @@
 -- The areas of a guard while they are gathered, place by place.
-use Rattle.chan_walk.proofs.Names.{[], AddsBytes, All, All-append, ap, Area, AreExactly, AreReached, argument_addresses, arith, begins_seek, both_ways, byte_area, ccw_at, ccw_of, EndsBelow, Fields, get_or, Has, inl, inr, is_inside, is_some, IsArgumentByte, IsArgumentByteOf, IsCcwByte, IsCcwByteOf, IsChain, IsClear, IsSeekByteOf, Job, leb-true, length, lies_in, lies_in-cases, lies_in-first, lies_in-nil, List, map, Option, or_cases, or_left, or_right, Place, refl, rules, Stands, STORAGE_LIMIT, storage_of, subst, sym, true, ℕ, ◌++◌, ◌+◌, ◌<◌, ◌^◌, ◌↔◌, ◌∙◌, ◌∷◌, ◌≡◌, ◌≤◌, ◌⊎◌}
-use Rattle.std.proofs.lemmas.List.Elements.{All-map}
+use Rattle.chan_walk.proofs.Names.{[], AddsBytes, All, ap, Area, AreExactly, AreReached, argument_addresses, arith, begins_seek, both_ways, byte_area, ccw_at, ccw_of, EndsBelow, Fields, Has, inl, inr, is_inside, is_some, IsArgumentByte, IsArgumentByteOf, IsCcwByte, IsCcwByteOf, IsChain, IsClear, IsSeekByteOf, Job, leb-true, length, lies_in, lies_in-cases, lies_in-first, lies_in-nil, List, map, Option, or_cases, or_left, or_right, Place, refl, rules, Stands, STORAGE_LIMIT, storage_of, subst, sym, true, ℕ, ◌++◌, ◌+◌, ◌^◌, ◌↔◌, ◌∙◌, ◌∷◌, ◌≡◌, ◌≤◌, ◌⊎◌}
 use Rattle.chan_walk.proofs.Theory.Chains.{chain_unique}
 use Rattle.chan_walk.proofs.Theory.Lists.{has_left, has_right, has_cases}
-use Rattle.chan_areas.proofs.Merging.{lies_in-append, lies_in-rest}
-use Rattle.std.proofs.lemmas.List.{get_or_default}
+use Rattle.chan_areas.proofs.Merging.{lies_in-append, lies_in-rest, same_before}
+use Rattle.chan_areas.specs.Merged.{HaveSameBytes}
+use Rattle.std.proofs.Common.{append_assoc}
+use Rattle.std.proofs.lemmas.List.{map-append}
 
 -- the areas have exactly the bytes that are P's at some place of the list
 abbrev pub HoldBytes : (Place → ℕ → Type 0) → List Place → List Area → Type 0
@@ -51,11 +52,9 @@ argument_bytes j ps areas r f b = search rules
 
 -- ---- at one place
 
-pub adds_areas : (old added new : List Area) (P : ℕ → Type 0) → new ≡ old ++ added → ((b : ℕ) → (lies_in added b ≡ true) ↔ P b) → AddsBytes old new P
+pub adds_areas : (old added new : List Area) (P : ℕ → Type 0) → HaveSameBytes new (old ++ added) → ((b : ℕ) → (lies_in added b ≡ true) ↔ P b)
+    → AddsBytes old new P
 adds_areas old added new P e f b = search (rules, or_cases, lies_in-append, or_left, or_right)
-
-pub low_more : (old added new : List Area) (n : ℕ) → new ≡ old ++ added → All (EndsBelow n) old → All (EndsBelow n) added → All (EndsBelow n) new
-low_more old added new n e f g = subst (All (EndsBelow n)) (sym e) (All-append (EndsBelow n) old added f g)
 
 -- the eight bytes of a CCW
 pub bytes_of_ccw : (j : Job) (p : Place) → Stands (storage_of j) p.address → (b : ℕ)
@@ -66,8 +65,11 @@ pub lies_in-bytes : (xs : List ℕ) (b : ℕ) → (lies_in (map byte_area xs) b 
 lies_in-bytes [] b = ((λ h. absurd (both_ways (lies_in [] b) (lies_in-nil b) h)), λ h. absurd h)
 lies_in-bytes (x ∷ xs) b = search (rules, lies_in-cases, lies_in-first, lies_in-rest, lies_in-bytes xs b)
 
-pub low_bytes : (xs : List ℕ) → ((i : ℕ) → get_or xs i 0 < STORAGE_LIMIT) → All (EndsBelow (2 ^ 32)) (map byte_area xs)
-low_bytes xs h = All-map (EndsBelow (2 ^ 32)) byte_area xs (λ i d l. let k = h i in let e = get_or_default xs i d 0 l in omega arith)
+pub adds_byte : (old now new : List Area) (xs : List ℕ) (x : ℕ) → HaveSameBytes now (old ++ map byte_area xs) → HaveSameBytes new (now ++ byte_area x ∷ [])
+    → HaveSameBytes new (old ++ map byte_area (xs ++ x ∷ []))
+adds_byte old now new xs x before here b =
+    here b ∙ same_before now (old ++ map byte_area xs) (byte_area x ∷ []) b (before b)
+    ∙ ap (λ z. lies_in z b) (append_assoc old (map byte_area xs) (byte_area x ∷ []) ∙ ap (λ z. old ++ z) (sym (map-append byte_area xs (x ∷ []))))
 
 -- the argument at a place that begins a seek and has no own fault
 pub bytes_of_argument : (j : Job) (p : Place) (l x : List ℕ) → begins_seek p (ccw_of j p) ≡ true → IsClear j p

@@ -1,5 +1,9 @@
-use Rattle.chan_walk.proofs.Names.{byte_area, map, take, ◌++◌, ◌≡◌}
+use Rattle.chan_walk.proofs.Names.{All, byte_area, EndsBelow, map, take, ◌++◌, ◌^◌}
+use Rattle.chan_areas.specs.Merged.{HaveSameBytes}
 use Rattle.chan_walk.proofs.guard.add_bytes.Given as goal
 
 abbrev pub invariant-loop-address : goal.invariant-loop-address
-invariant-loop-address l = l.areas.items ≡ l.initial.areas.items ++ map byte_area (take l.address-index l.addresses)
+invariant-loop-address l = record {
+  low : All (EndsBelow (2 ^ 32)) l.areas.items;
+  bytes : HaveSameBytes l.areas.items (l.initial.areas.items ++ map byte_area (take l.address-index l.addresses));
+}
