@@ -34,7 +34,6 @@ pub(crate) struct PlaceTable {
     /// For each place one more than the index of the place before it in its list; 0 if there is
     /// none.
     before: Vec<u32>,
-    alloc: Global,
 }
 
 impl PlaceTable {
@@ -42,22 +41,24 @@ impl PlaceTable {
     pub(crate) fn new(alloc: Global) -> Result<PlaceTable, AllocError>
         ensures { IfOk result (λ t. FindsPlaces t []) }
     {
-        PlaceTable::with_lists(alloc, FEW)
+        let mut table = PlaceTable {
+            last: Vec::new(alloc),
+            before: Vec::new(alloc),
+        };
+        table.empty(FEW)?;
+        Ok(table)
     }
 
-    /// The table of no places that has so many lists.
-    fn with_lists(alloc: Global, lists: usize) -> Result<PlaceTable, AllocError>
+    /// Takes all places out, and makes so many lists.
+    fn empty(&mut self, lists: usize) -> Result<(), AllocError>
         requires some { 0 < lists }
         requires few { lists < 2 ^ 32 }
-        ensures { IfOk result (λ t. FindsPlaces t []) }
+        ensures { OnOk result (FindsPlaces self.new []) }
     {
-        let mut last = Vec::new(alloc);
-        last.resize(lists, 0)?;
-        Ok(PlaceTable {
-            last,
-            before: Vec::new(alloc),
-            alloc,
-        })
+        self.before.clear();
+        self.last.clear();
+        self.last.resize(lists, 0)?;
+        Ok(())
     }
 
     /// The index of a place, if it is one of those looked at.
@@ -127,11 +128,11 @@ impl PlaceTable {
         requires places { length looks.now < 2 ^ 31 }
         ensures { OnOk result (FindsPlaces self.new (places_of_looks looks.now)) }
     {
-        let mut table = PlaceTable::with_lists(self.alloc, 4 * self.last.len())?;
+        let lists = 4 * self.last.len();
+        self.empty(lists)?;
         for look in looks {
-            table.hang(look.place())?;
+            self.hang(look.place())?;
         }
-        *self = table;
         Ok(())
     }
 }

@@ -54,6 +54,10 @@ impl<T> Vec<T> {
         self.0.truncate(len);
     }
 
+    pub fn clear(&mut self) {
+        self.0.clear();
+    }
+
     pub fn as_slice(&self) -> &[T] {
         &self.0
     }

@@ -3,4 +3,4 @@ use Rattle.chan_walk.specs.PlaceTable.{FindsPlaces}
 use Rattle.chan_walk.proofs.place_table.PlaceTable.spread.Given as goal
 
 abbrev pub invariant-loop-look : goal.invariant-loop-look
-invariant-loop-look l = FindsPlaces l.table (places_of_looks (take l.look-index l.looks))
+invariant-loop-look l = FindsPlaces l.self (places_of_looks (take l.look-index l.looks))
