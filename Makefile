@@ -16,7 +16,7 @@ VERSION = 0.8.0
 JOBS ?= $(shell nproc)
 
 # The kit with which all was proved last, as `rt version` names it.
-KIT = rattle-kit-13b logic dac8208d650f15bf
+KIT = rattle-kit-13f logic dac8208d650f15bf
 
 # The libraries under chanv. `rt run` in chanv finds them built, and leaves out its quick pass over
 # all sources.

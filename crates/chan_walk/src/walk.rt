@@ -1,6 +1,6 @@
 //! Exploring: from the first place on to the successors of each place found.
 
-ghost use Rattle.std.specs.Prelude.{◌≡◌, ◌<◌, ◌≤◌, ◌+◌, ◌^◌, length, IfOk, OnOk};
+ghost use Rattle.std.specs.Prelude.{◌≡◌, ◌<◌, ◌≤◌, ◌+◌, ◌^◌, length, IfOk, OnOk, Some};
 ghost use Rattle.chan_walk.specs.Places.{AreReachable, HasMoreThan};
 ghost use Rattle.chan_walk.specs.Lent.{AreLent};
 ghost use Rattle.chan_walk.specs.Look.{AreLooks, places_of_looks};
@@ -32,7 +32,33 @@ pub(crate) struct Walk {
 impl Walk {
     /// Looks at a place, which was found from the one of the index `from`, and adds it, unless it
     /// is found already.
-    fn add(
+    fn add(&mut self, job: &Job, lent: &Lent, place: Place, from: u32) -> Result<(), WalkError>
+        requires lent { AreLent job.now lent.now }
+        requires looks { AreLooks job.now self.old.looks.items }
+        requires finds { FindsPlaces self.old.table (places_of_looks self.old.looks.items) }
+        ensures ok { OnOk result (AddsPlace job.now.limit (Some place) from
+            (places_of_looks self.old.looks.items) (places_of_looks self.new.looks.items)
+            self.old.found_from.items self.new.found_from.items) }
+        ensures looks { OnOk result (AreLooks job.now self.new.looks.items) }
+        ensures finds { OnOk result
+            (FindsPlaces self.new.table (places_of_looks self.new.looks.items)) }
+        ensures many { result ≡ Err WalkError.TooManyPlaces
+            → HasNoRoomFor job.now.limit (Some place) (places_of_looks self.old.looks.items) }
+    {
+        if let Err(compared) = self.table.search(self.looks.as_slice(), place) {
+            if self.looks.len() >= job.limit.get() as usize {
+                return Err(WalkError::TooManyPlaces);
+            }
+            self.table.push(self.looks.as_slice(), place, compared)?;
+            self.looks.push(look_by(job, Lending::Merged(lent), place))?;
+            self.found_from.push(from)?;
+        }
+        Ok(())
+    }
+
+    /// Adds a place as `add` does, if there is one.
+    #[inline(always)]
+    fn add_if_any(
         &mut self,
         job: &Job,
         lent: &Lent,
@@ -51,17 +77,10 @@ impl Walk {
         ensures many { result ≡ Err WalkError.TooManyPlaces
             → HasNoRoomFor job.now.limit place (places_of_looks self.old.looks.items) }
     {
-        if let Some(place) = place {
-            if let Err(compared) = self.table.search(self.looks.as_slice(), place) {
-                if self.looks.len() >= job.limit.get() as usize {
-                    return Err(WalkError::TooManyPlaces);
-                }
-                self.table.push(self.looks.as_slice(), place, compared)?;
-                self.looks.push(look_by(job, Lending::Merged(lent), place))?;
-                self.found_from.push(from)?;
-            }
+        match place {
+            Some(place) => self.add(job, lent, place, from),
+            None => Ok(()),
         }
-        Ok(())
     }
 
     /// Adds the successors of the place of this index.
@@ -85,8 +104,8 @@ impl Walk {
     {
         let next = self.looks[at].next();
         let from = at as u32;
-        self.add(job, lent, next.next, from)?;
-        self.add(job, lent, next.skip, from)?;
+        self.add_if_any(job, lent, next.next, from)?;
+        self.add_if_any(job, lent, next.skip, from)?;
         Ok(())
     }
 }
@@ -122,7 +141,7 @@ pub(crate) fn walk_all(alloc: Global, job: &Job) -> Result<Walk, WalkError>
         found_from: Vec::new(alloc),
         table: PlaceTable::new(alloc)?,
     };
-    walk.add(job, &lent, Some(first_place(job)), 0)?;
+    walk.add(job, &lent, first_place(job), 0)?;
     let mut at = 0;
     while at < walk.looks.len() {
         walk.add_successors(job, &lent, at)?;

@@ -70,8 +70,8 @@ finds_more t u ps q list before f in_list is more written = record {
 
     last : (k : ℕ) → k < n → (k ≡ list) ⊎ (k ≡ list → ⊥) → IsLastIn n (ps ++ q ∷ []) k (slice_index (set t.last.items list (length ps + 1)) k)
     last k low (inl e) =
-        subst (IsLastIn n (ps ++ q ∷ []) k) (sym (ap (slice_index (set t.last.items list (length ps + 1))) e ∙ get_or-set_same t.last.items list (length ps + 1) 0 within))
-        (last_here n ps q k (sym in_list ∙ sym e))
+        let here = ap (slice_index (set t.last.items list (length ps + 1))) e ∙ get_or-set_same t.last.items list (length ps + 1) 0 within in
+        subst (IsLastIn n (ps ++ q ∷ []) k) (sym here) (last_here n ps q k (sym in_list ∙ sym e))
     last k low (inr d) =
         subst (IsLastIn n (ps ++ q ∷ []) k) (sym (get_or-set_other t.last.items list k (length ps + 1) 0 d))
         (last_other n ps q k (slice_index t.last.items k) (λ e. d (sym e ∙ sym in_list)) (f.last k low))
@@ -80,7 +80,8 @@ finds_more t u ps q list before f in_list is more written = record {
         → IsLastIn n (take i (ps ++ q ∷ [])) (list_of n p.address) (slice_index (t.before.items ++ before ∷ []) i)
     old i p (inl s) =
         let low : i < length ps = slice_get_within ps i p s in
-        subst (λ z. IsLastIn n z (list_of n p.address) (slice_index (t.before.items ++ before ∷ []) i)) (sym (take-append-le i ps (q ∷ []) (omega (arith, low))))
+        let front = take-append-le i ps (q ∷ []) (omega (arith, low)) in
+        subst (λ z. IsLastIn n z (list_of n p.address) (slice_index (t.before.items ++ before ∷ []) i)) (sym front)
         (subst (IsLastIn n (take i ps) (list_of n p.address)) (sym (get_or_append_left t.before.items (before ∷ []) 0 i (omega (arith, low, f.each))))
         (f.before i p s))
     old i p (inr s) =
