@@ -156,8 +156,8 @@ impl Merged {
     }
 }
 
-/// Adds an area to a list that is to be merged. Where it goes on from the last area of the list,
-/// that one grows instead, so that a list of areas in order stays short.
+/// Adds an area to a list that is to be merged. If it doesn't begin before the last area, and no
+/// byte lies between the two, that one grows instead: so a list in order stays short.
 pub fn add_area(areas: &mut Vec<Area>, area: Area) -> Result<(), AllocError>
     requires low { All (EndsBelow (2 ^ 32)) areas.old.items }
     requires fits { EndsBelow (2 ^ 32) area }

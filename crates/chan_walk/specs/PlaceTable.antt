@@ -1,5 +1,5 @@
--- Where places are found by their addresses: each is in a list with a few others, which its address
--- tells. For each list the last place in it is known, and for each place the one before it there.
+-- Where places are found by their addresses: the address of each tells in which list it is. For each
+-- list the last place in it is known, and for each place the one before it in its list.
 use Rattle.std.specs.Prelude.{◌≡◌, ℕ, ◌+◌, ◌*◌, ◌/◌, ◌%◌, ◌^◌, ◌<◌, ◌≤◌, List, length, take}
 use Rattle.std.specs.Prelude.{slice_get, slice_index, Option, None, Some}
 use Rattle.chan_walk.specs.declared.place.Place.{Place}
@@ -12,7 +12,7 @@ abbrev pub IsIndexOf : List Place → Place → Option ℕ → Type 0
 IsIndexOf ps p None = Has ps p → ⊥
 IsIndexOf ps p (Some k) = slice_get ps k ≡ Some p
 
--- of so many lists, the one in which the places at the address a are
+-- of so many lists, the one that has the places at the address a
 abbrev pub list_of : ℕ → ℕ → ℕ
 list_of lists a = a / 8 * GOLDEN % 2 ^ 32 * lists / 2 ^ 32
 

@@ -242,7 +242,7 @@ fn bytes_of(storage: &Storage, count: usize, addresses: [u32; 6]) -> [u8; 6]
 }
 
 /// The argument of a seek whose own CCW, `ccw`, stands at `address`; or what its data chain gives
-/// of it. Each byte is read once. It isn't inlined, so that a look at another command stays short.
+/// of it. Each byte is read once. It isn't inlined, so that a look at any other command is short.
 #[inline(never)]
 fn gather(storage: &Storage, address: u32, ccw: Ccw) -> GivenBytes
     requires { ccw_in (bytes_held storage.now) address ≡ Some ccw }

@@ -15,18 +15,17 @@ use std::alloc::{AllocError, Global};
 /// How many lists a table has at first.
 const FEW: usize = 16;
 
-/// With how many places of a list a place may be compared before the table gets more lists.
+/// A table gets more lists once a place was compared with more places than this.
 const LONG: usize = 64;
 
-/// From how many lists on a table gets no more. The aligned places of a list then lie at some
-/// eight doublewords of storage.
+/// A table of so many lists gets no more: each then has the places of some eight doublewords.
 const MOST: usize = 262_144;
 
-/// 2 ^ 32 divided by the golden ratio: its multiples are spread evenly over 32 bits.
+/// 2 ^ 32 divided by the golden ratio, so that its multiples are spread evenly over 32 bits.
 const GOLDEN: u32 = 0x9E37_79B1;
 
-/// The places of a walk in the order in which they were found. Each is in a list with a few others,
-/// which its address tells.
+/// The places of a walk in the order in which they were found. The address of each tells in which
+/// list it is, beside a few others.
 #[derive(Drop)]
 pub(crate) struct PlaceTable {
     /// For each list one more than the index of the last place in it; 0 if it is empty.
@@ -49,7 +48,7 @@ impl PlaceTable {
         Ok(table)
     }
 
-    /// Takes all places out, and makes so many lists.
+    /// Takes out all places, and makes so many lists for others.
     fn empty(&mut self, lists: usize) -> Result<(), AllocError>
         requires some { 0 < lists }
         requires few { lists < 2 ^ 32 }
@@ -69,8 +68,8 @@ impl PlaceTable {
         self.search(looks, place).ok()
     }
 
-    /// The index of a place, if it is one of those looked at; otherwise with how many of them it
-    /// was compared.
+    /// The index of a place, if it is one of those looked at; otherwise how many of them it was
+    /// compared with.
     pub(crate) fn search(&self, looks: &[Look], place: Place) -> Result<usize, usize>
         requires { FindsPlaces self.now (places_of_looks looks.now) }
         ensures found { IfOk result
@@ -90,7 +89,7 @@ impl PlaceTable {
         Err(compared)
     }
 
-    /// Adds a place after those looked at, given with how many of them `search` compared it.
+    /// Adds a place after those looked at, given how many of them `search` compared it with.
     pub(crate) fn push(
         &mut self,
         looks: &[Look],

@@ -56,7 +56,8 @@ impl Walk {
         Ok(())
     }
 
-    /// Adds a place as `add` does, if there is one.
+    /// Adds a place as `add` does, if there is one. It is inlined, because a place mostly has only
+    /// one successor, and no call is made for the other.
     #[inline(always)]
     fn add_if_any(
         &mut self,
