@@ -1,5 +1,5 @@
--- Where places are found by their addresses: the address of each tells in which list it is. For each
--- list the last place in it is known, and for each place the one before it in its list.
+-- Where places are found by their addresses: the address of each tells in which list it is. For
+-- each list the last place in it is known, and for each place the one before it in its list.
 use Rattle.std.specs.Prelude.{◌≡◌, ℕ, ◌+◌, ◌*◌, ◌/◌, ◌%◌, ◌^◌, ◌<◌, ◌≤◌, List, length, take}
 use Rattle.std.specs.Prelude.{slice_get, slice_index, Option, None, Some}
 use Rattle.chan_walk.specs.declared.place.Place.{Place}

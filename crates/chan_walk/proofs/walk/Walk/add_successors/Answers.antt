@@ -15,7 +15,8 @@ returns-in_err-add_if_any-clause-many c e =
     let ls = c.args.self.now.looks.items in
     let there = slice_get_read ls _ c.args.at c.index.result.now refl c.requires.within c.index.ensures in
     let here = leads_from_look c.args.job.now ls c.args.at c.index.result.now c.next-next.result c.requires.looks there c.next-next.ensures in
-    next_overflows c.args.job.now c.args.job.now.limit c.next-next.result (places_of_looks ls) c.args.at c.requires.walked here (c.in_err-add_if_any.ensures.many was)
+    next_overflows c.args.job.now c.args.job.now.limit c.next-next.result (places_of_looks ls) c.args.at c.requires.walked here
+    (c.in_err-add_if_any.ensures.many was)
 
 pub returns-in_err-add_if_any-2-clause-many : goal.returns-in_err-add_if_any-2-clause-many
 returns-in_err-add_if_any-2-clause-many c e =
@@ -25,7 +26,8 @@ returns-in_err-add_if_any-2-clause-many c e =
     let there = slice_get_read ls _ c.args.at c.index.result.now refl c.requires.within c.index.ensures in
     let here = leads_from_look c.args.job.now ls c.args.at c.index.result.now c.next-next.result c.requires.looks there c.next-next.ensures in
     skip_overflows c.args.job.now c.args.job.now.limit c.next-next.result _ (places_of_looks ls)
-    (places_of_looks c.add_if_any.new.self.looks.items) _ _ c.args.at c.requires.walked here c.in_ok-add_if_any.ensures.ok (c.in_err-add_if_any-2.ensures.many was)
+    (places_of_looks c.add_if_any.new.self.looks.items) _ _ c.args.at c.requires.walked here c.in_ok-add_if_any.ensures.ok
+    (c.in_err-add_if_any-2.ensures.many was)
 
 pub returns-clause-ok : goal.returns-clause-ok
 returns-clause-ok c =
