@@ -2,7 +2,6 @@
 
 ghost use Rattle.std.specs.Prelude.{◌≡◌, ◌<◌, ◌^◌, ◌++◌, ◌∷◌, List, [], length, IfOk, IfErr, OnOk};
 ghost use Rattle.std.specs.Prelude.{Some};
-ghost use Rattle.chan_walk.specs.Argument.{Has};
 ghost use Rattle.chan_walk.specs.Look.{places_of_looks};
 ghost use Rattle.chan_walk.specs.PlaceTable as table;
 ghost use Rattle.chan_walk.specs.PlaceTable.{FindsPlaces, IsIndexOf};
@@ -104,11 +103,11 @@ impl PlaceTable {
         if is_full && self.last.len() < MOST {
             self.spread(looks)?;
         }
-        self.hang(place)
+        self.add_last(place)
     }
 
     /// Adds a place after the others, as the last of its list.
-    fn hang(&mut self, place: Place) -> Result<(), AllocError>
+    fn add_last(&mut self, place: Place) -> Result<(), AllocError>
         requires places { (ps : List places.Place) × FindsPlaces self.old ps }
         requires few { length self.old.before.items < 2 ^ 31 }
         ensures { OnOk result ((ps : List places.Place) → FindsPlaces self.old ps
@@ -130,7 +129,7 @@ impl PlaceTable {
         let lists = 4 * self.last.len();
         self.empty(lists)?;
         for look in looks {
-            self.hang(look.place())?;
+            self.add_last(look.place())?;
         }
         Ok(())
     }

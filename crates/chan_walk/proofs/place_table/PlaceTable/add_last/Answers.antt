@@ -3,7 +3,7 @@ use Rattle.std.proofs.Common.{set}
 use Rattle.std.proofs.lemmas.List.{get_or_read}
 use Rattle.chan_walk.proofs.Algorithms.PlaceTable.{finds_more}
 use Rattle.chan_walk.specs.PlaceTable.{list_of}
-use Rattle.chan_walk.proofs.place_table.PlaceTable.hang.Goals as goal
+use Rattle.chan_walk.proofs.place_table.PlaceTable.add_last.Goals as goal
 
 pub returns : goal.returns
 returns c ps f =
