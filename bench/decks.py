@@ -162,14 +162,11 @@ def comb(count=PLACES):
     return deck(in_a_row(words), storage, fetch=[(base, 5)], places=count, start=last)
 
 
-def scattered(count=PLACES):
-    """As many places as there may be, two by two all over the largest storage.
+def linked(pairs):
+    """Two places at each address: a No Operation, and a transfer to the next address.
 
-    Each pair is a No Operation and a transfer to the next pair, which lies far from it.
+    The storage is the largest, and the last pair ends the program.
     """
-    slots = (STORAGE_LIMIT - START) // 16
-    # no factor in common with the slots
-    pairs = [START + 16 * (i * 647_963 % slots) for i in range(count // 2)]
     puts = {}
     for here, there in zip(pairs, pairs[1:]):
         puts[here] = word(NO_OPERATION, 0, CHAIN_COMMAND, 1)
@@ -177,7 +174,17 @@ def scattered(count=PLACES):
     puts[pairs[-1]] = word(NO_OPERATION, 0, CHAIN_COMMAND, 1)
     puts[pairs[-1] + DOUBLEWORD] = word(NO_OPERATION, 0, LAST, 1)
     lines = (put(address, digits) for address, digits in sorted(puts.items()))
-    return deck(lines, STORAGE_LIMIT, places=count)
+    return deck(lines, STORAGE_LIMIT, places=2 * len(pairs), start=pairs[0])
+
+
+def scattered(count=PLACES):
+    """As many places as there may be, two by two all over the largest storage.
+
+    Each pair is a No Operation and a transfer to the next pair, which lies far from it.
+    """
+    slots = (STORAGE_LIMIT - START) // 16
+    # no factor in common with the slots
+    return linked([START + 16 * (i * 647_963 % slots) for i in range(count // 2)])
 
 
 def one_byte_areas(order):

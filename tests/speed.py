@@ -9,12 +9,16 @@ to judge them all takes half an hour, so after so many places `find` says that i
 A start with 4,096 rows in order, and one with 64 KiB of kept bytes, are bounded in instructions,
 some three times as many as `chanv_check_start` takes: the product of the rows, and a comparison of
 each byte alone, take more. A start beside a program with 65,536 rows of each kind that can't meet
-takes at most 12 instructions for each row. So is a picture of 65,536 places, with some 100,000 arrows: a search from
-the first place on for each takes more. valgrind counts the instructions; without it this part is
-left out, by its name.
+takes at most 12 instructions for each row. So is a picture of 65,536 places, with some 100,000
+arrows: a search from the first place on for each takes more. So is a verdict on 4,096 places whose
+addresses are chosen to share lists: if the walk did not make more lists early, it would take three
+quarters more instructions. valgrind counts the instructions; without it this part is left out, by its
+name.
 """
 
+import heapq
 import os
+import random
 import re
 import shutil
 import subprocess
@@ -41,6 +45,12 @@ INSTRUCTIONS = [
 
 # the deck whose picture is drawn, and how many instructions that may take
 PICTURE = "comb-65536", 2_000_000_000
+
+# by what the walk multiplies a doubleword's number to pick a list; how many places there are whose
+# addresses are chosen to share lists, and how many instructions the verdict on them may take
+GOLDEN = 0x9E3779B1
+SHARING = 4_096, 30_000_000
+STORAGE_LIMIT = 16_777_216
 
 # the processor time after which the system ends a run, and the most for `find`
 LAST_SECOND = 20
@@ -83,6 +93,14 @@ def check_count(checks, name, most, *words, given=b"", only=()):
     checks.expect_that(f"{name}, at most {most} instructions", 0 < count <= most, count)
 
 
+def sharing(count):
+    """A deck of so many places, at the doublewords of least product, so that they share lists."""
+    doublewords = range(256, STORAGE_LIMIT // 8 - 1)
+    chosen = heapq.nsmallest(count // 2, doublewords, key=lambda at: at * GOLDEN % 2**32)
+    random.Random(count).shuffle(chosen)
+    return of_bench("decks").linked([8 * at for at in chosen])
+
+
 def check_instructions(checks, built, decks, room):
     if shutil.which("valgrind") is None:
         checks.skip("instructions", "no valgrind")
@@ -94,6 +112,9 @@ def check_instructions(checks, built, decks, room):
     name, most = PICTURE
     deck = "".join(decks[name]()).encode()
     check_count(checks, f"graph {name}", most, built.chanv(), "graph", given=deck)
+    count, most = SHARING
+    deck = "".join(sharing(count)).encode()
+    check_count(checks, "verify, places that share lists", most, built.chanv(), "verify", given=deck)
 
 
 def check_find(checks, program, room):
