@@ -20,7 +20,7 @@ KIT = rattle-kit-13f logic dac8208d650f15bf
 
 # The libraries under chanv. `rt run` in chanv finds them built, and leaves out its quick pass over
 # all sources.
-LIBRARIES = ccw_core ckd_core chan_args chan_areas chan_walk chan_needs chan_why chan_deck chan_find chan_run
+LIBRARIES = ccw_core ckd_core chan_areas chan_walk chan_needs chan_why chan_args chan_deck chan_find chan_run
 
 # The deck that `make try` explains the verdict on.
 DECK ?= examples/changes-argument.deck
@@ -47,14 +47,18 @@ $(LIBRARIES):
 # one processor is enough beside the others.
 chan_areas: ccw_core
 chan_walk: chan_areas ckd_core
-chan_needs chan_why chan_find: chan_walk
+chan_needs chan_why chan_find chan_args: chan_walk
 chan_deck: chan_needs chan_why
 chan_run: chan_args chan_find chan_deck
 ckd_core chan_args chan_find: private JOBS = 1
 
-# Explains the verdict on a deck, with nothing proved: it compiles the sources as they are.
-try:
-	@exec < "$(DECK)" && cd crates/chanv && { rt try -- why || test $$? -eq 1; }
+# Explains the verdict on a deck, with nothing proved: it compiles the sources as they are. The status
+# of a *no* is 1, and so is that of `rt` if nothing compiles, so that the verdict has to be there.
+try: can_prove
+	@exec < "$(DECK)" && cd crates/chanv && said=$$(rt try -- why); status=$$?; \
+	  test -z "$$said" || printf '%s\n' "$$said"; \
+	  case "$$status $$said" in "0 yes"* | "1 no "*) ;; \
+	  *) echo "make try: no verdict: rt try ended with status $$status" >&2; exit 1 ;; esac
 
 # Builds program and library by plain rustc, with nothing proved. Rust's crates are Debian's, or
 # come from crates.io; rustc/README.md says more. TARGET names another machine as rustc names it, and
@@ -194,11 +198,10 @@ install:
 	chmod 644 "$(TO_LIB)/pkgconfig/chanv.pc"
 
 # Installs what `make rustc` built under the same names, so that the proved library can take its
-# place; the program, the library's version and the package's version say that it isn't proved.
+# place; the program, the library's version and chanv.pc say that it isn't proved.
 install-rustc:
 	@$(MAKE) --no-print-directory -f $(firstword $(MAKEFILE_LIST)) install OUT=$(NOT_PROVED) \
 	  PROGRAM=$(NOT_PROVED)/chanv BUILDS="make rustc" BESIDES=", not proved"
-	@sed -i '/^VERSION = /s/"$$/+not.proved"/' "$(TO)/share/chanv/python/chanv/_c.py"
 
 uninstall:
 	rm -f "$(TO)/bin/chanv" "$(TO)/share/man/man1/chanv.1" "$(TO)/include/chanv.h" \

@@ -1,10 +1,21 @@
 # Completes the words of chanv in bash; `make install` puts it where bash looks for it.
 _chanv() {
     local word=${COMP_WORDS[COMP_CWORD]} before=${COMP_WORDS[COMP_CWORD - 1]}
+    # the table of commands: tests/commands.py
     local commands='verify list why needs graph find deck explain show help'
-    local of_deck='--device --mask --start --limit --extent --fetch --store --least --open --at
-        --storage'
-    local of_find='--device --limit --at --storage'
+    local -A options=(
+        [verify]=''
+        [list]='--wide --range'
+        [why]='--all --of'
+        [needs]='--deck'
+        [graph]=''
+        [find]='--device --limit --at --storage'
+        [deck]='--device --mask --start --limit --extent --fetch --store --least --open --at --storage'
+        [explain]=''
+        [show]='--name'
+    )
+    local valued='--at --device --extent --fetch --limit --mask --of --range --start --storage --store'
+    # end of the table
     local reasons='misaligned outside-storage transfer-not-allowed invalid-code bad-format
         zero-count data-outside not-in-table inhibited store-not-lent fetch-not-lent short-seek
         seek-outside changes-ccw changes-argument weakens-mask'
@@ -38,33 +49,16 @@ _chanv() {
         words="$commands --help --version"
         files=
     else
+        words="${options[${COMP_WORDS[1]}]-} --help"
+        [[ $before == --device ]] || [[ " $valued " != *" $before "* ]] || return
         case ${COMP_WORDS[1]} in
         help) words=$commands files= ;;
-        list)
-            [[ $before == --range ]] && return
-            words='--wide --range --help'
-            ;;
-        why)
-            [[ $before == --of ]] && return
-            words='--all --of --help'
-            ;;
-        needs) words='--deck --help' ;;
-        show) words='--name --help' files= ;;
+        show) files= ;;
         explain)
             [[ $word == -* ]] || words="$reasons $causes $failures $output $commands_of_disk"
             files=
             ;;
-        find | deck)
-            case $before in
-            --device) words='2311 2314' files= ;;
-            --least | --open | --help) ;;
-            --*) return ;;
-            esac
-            if [[ $files ]]; then
-                words="$of_deck --help"
-                [[ ${COMP_WORDS[1]} != find ]] || words="$of_find --help"
-            fi
-            ;;
+        find | deck) [[ $before != --device ]] || words='2311 2314' files= ;;
         esac
     fi
     if [[ ! $files || $word == -* ]]; then

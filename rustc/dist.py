@@ -37,8 +37,13 @@ def vendor(folder):
 
 
 def pack(folder, name, archive):
-    """Packs a folder under a name, each file with the same owner, mode and time."""
-    with gzip.GzipFile(archive, "wb", mtime=0) as packed, tarfile.open(None, "w", packed) as tar:
+    """Packs a folder under a name, each file with the same owner, mode and time. The archive
+    doesn't hold its own name."""
+    with (
+        open(archive, "wb") as file,
+        gzip.GzipFile("", "wb", fileobj=file, mtime=0) as packed,
+        tarfile.open(None, "w", packed) as tar,
+    ):
         for path in sorted(it for it in folder.rglob("*") if it.is_file()):
             entry = tarfile.TarInfo(f"{name}/{path.relative_to(folder)}")
             data = path.read_bytes()
@@ -48,8 +53,8 @@ def pack(folder, name, archive):
 
 def main():
     version, archive = sys.argv[1:]
-    if strip.lacking(strip.DEBIAN):
-        sys.exit(f"rustc/dist.py: it packs the crates of Debian; {strip.install()}")
+    if why := strip.lacks(strip.DEBIAN):
+        sys.exit(f"rustc/dist.py: {why}; it packs the crates of Debian; {strip.install()}")
     with tempfile.TemporaryDirectory() as room:
         folder = Path(room).resolve() / "chanv"
         subprocess.run([HERE / "strip.py", folder], check=True)

@@ -1,5 +1,5 @@
 #!/bin/sh
-# Loads Debian 12's rustc with Rust's library for s390x, aarch64 and i686 into a folder, and changes
+# Loads Debian's rustc with Rust's library for s390x, aarch64 and i686 into a folder, and changes
 # nothing else: rustc/machines.sh [FOLDER], by default out/machines. It takes 200 MB and 20 seconds.
 # Put the folder on your path: it has a rustc and a cargo. The linkers and qemu are Debian's packages
 # gcc-{s390x,aarch64,i686}-linux-gnu, libc6-dev-{s390x,arm64,i386}-cross and qemu-user-static.
@@ -17,10 +17,59 @@ END
 export APT_CONFIG="$to/conf"
 # not each place that apt takes packages from has all machines
 apt-get -qq update || true
+
+# versions PACKAGE: those that apt can load, without what a rebuild for one machine adds
+versions() {
+	apt-cache madison "$1" | cut -d '|' -f 2 | sed 's/ //g; s/+b[0-9]*$//' | sort -u
+}
+
+# The newest compiler that has Rust's library for each machine: some places that apt takes packages
+# from don't have all machines.
+version=$(for machine in amd64 s390x arm64 i386; do
+	versions libstd-rust-web-dev:$machine
+done | sort -V | uniq -c | sed -n 's/^ *4 //p' | tail -n 1)
+[ -n "$version" ] || {
+	echo "rustc/machines.sh: apt knows no rustc-web with a library for each machine" >&2
+	exit 1
+}
+
+# of_version PACKAGE..: each with that version, as apt-get takes it
+of_version() {
+	for package in "$@"; do
+		apt-cache madison "$package" | cut -d '|' -f 2 | sed 's/ //g' |
+			grep -E "^$(echo "$version" | sed 's/[.+]/\\&/g')(\+b[0-9]+)?$" | head -n 1 |
+			sed "s/^/$package=/"
+	done
+}
+
+# depends PACKAGE..: the libraries that these depend on and that aren't installed here, besides
+# those of Rust, which have to be in the folder
+depends() {
+	apt-cache depends --important "$@" | sed -n 's/^[ |]*Depends: \(lib[^<>]*\)$/\1/p' |
+		sort -u | while read -r library; do
+		case $library in
+		libstd-rust-web-dev) ;;
+		libstd-rust-*) of_version "$library" ;;
+		*) dpkg-query -W "$library" > /dev/null 2>&1 || echo "$library" ;;
+		esac
+	done
+}
+
+# shellcheck disable=SC2046
+wanted=$(of_version rustc-web cargo-web libstd-rust-web-dev:amd64)
+more=$wanted
+while [ -n "$more" ]; do
+	# shellcheck disable=SC2086
+	more=$(depends $more | while read -r library; do
+		echo "$wanted" | grep -qxF -e "$library" || echo "$library"
+	done)
+	wanted="$wanted
+$more"
+done
 cd deb
-apt-get -qq download rustc-web cargo-web libstd-rust-web-1.85 libllvm19 libhttp-parser2.9 \
-	libstd-rust-web-dev:amd64 libstd-rust-web-dev:s390x libstd-rust-web-dev:arm64 \
-	libstd-rust-web-dev:i386
+# shellcheck disable=SC2046,SC2086
+apt-get -qq download $wanted \
+	$(of_version libstd-rust-web-dev:s390x libstd-rust-web-dev:arm64 libstd-rust-web-dev:i386)
 for package in *.deb; do dpkg -x "$package" "$to"; done
 cd "$to"
 for tool in rustc cargo; do

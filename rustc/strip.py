@@ -24,11 +24,19 @@ HERE = Path(__file__).resolve().parent
 ROOT = HERE.parent
 
 # Rust's crates that are used as they are. Every other crate that crates.txt names is in shims/.
-REAL = {"arrayvec": "0.7", "byteorder": "1", "itoa": "1", "thiserror": "1"}
-
-# Where Debian's packages put Rust's crates, and the crates that are needed, with all that they use.
+REAL = ["arrayvec", "byteorder", "itoa", "thiserror"]
+# Where Debian's packages put Rust's crates, and the crates that are needed, each with the first
+# version that serves and the first that may not.
 DEBIAN = Path("/usr/share/cargo/registry")
-NEEDED = ["arrayvec", "byteorder", "clap", "hex", "itoa", "strsim", "thiserror"]
+NEEDED = {
+    "arrayvec": ("0.7", "0.8"),
+    "byteorder": ("1", "2"),
+    "clap": ("4", "5"),
+    "hex": ("0.4", "0.5"),
+    "itoa": ("1", "2"),
+    "strsim": ("0.10", "0.12"),
+    "thiserror": ("1", "3"),
+}
 # The first version that has edition 2024. Debian 12's packages rustc and cargo are older.
 OLDEST = (1, 85)
 COMPILER = ["rustc-web", "cargo-web"]
@@ -199,13 +207,40 @@ def manifest(name, words, needs, own):
     for need in needs:
         where = f"../{need}" if need in own else f"../shims/{need}"
         by_path = f'{{ path = "{where}" }}'
-        lines.append(f'{need} = "{REAL[need]}"' if need in REAL else f"{need} = {by_path}")
+        lines.append(f'{need} = "{range_of(need)}"' if need in REAL else f"{need} = {by_path}")
     return "".join(f"{line}\n" for line in lines)
 
 
+def range_of(name):
+    """The versions of a crate that serve, as Cargo writes them."""
+    return ">={}, <{}".format(*NEEDED[name])
+
+
+def number_of(version):
+    return tuple(map(int, version.split(".")))
+
+
+def versions_in(folder, name):
+    """The versions of a crate that a folder of Debian's has."""
+    found = (re.fullmatch(rf"{name}-(\d+(?:\.\d+)*).*", it.name) for it in folder.glob(f"{name}-*"))
+    return [it[1] for it in found if it]
+
+
 def lacking(folder):
-    """The crates that a folder of Debian's lacks."""
-    return [name for name in NEEDED if not any(folder.glob(f"{name}-[0-9]*"))]
+    """The crates of which a folder of Debian's has no version that serves."""
+    for name, bounds in NEEDED.items():
+        first, end = map(number_of, bounds)
+        if not any(first <= number_of(it) < end for it in versions_in(folder, name)):
+            yield name
+
+
+def lacks(folder):
+    """What a folder of Debian's lacks, with its versions, or None."""
+    names = []
+    for name in lacking(folder):
+        also = f" (not {', '.join(sorted(found))})" if (found := versions_in(folder, name)) else ""
+        names.append(f"{name} {range_of(name)}{also}")
+    return f"no crates {'; '.join(names)}" if names else None
 
 
 def fault_of_cargo():
@@ -226,14 +261,14 @@ def packages():
 
 
 def install():
-    return f"on Debian 12: apt-get install {' '.join(packages())}"
+    return f"on Debian 12 or 13: apt-get install {' '.join(packages())}"
 
 
 def source_of(given):
     """The folder of Rust's crates, or None for crates.io."""
     if given:
         return None if given == "crates.io" else Path(given).absolute()
-    return None if lacking(DEBIAN) else DEBIAN
+    return None if lacks(DEBIAN) else DEBIAN
 
 
 def fetch(folder):
@@ -243,7 +278,8 @@ def fetch(folder):
     ran = subprocess.run(words, cwd=folder, env=at_once, capture_output=True, text=True)
     if ran.returncode != 0:
         why = ran.stderr.strip().rpartition("\n")[2].strip()
-        sys.exit(f"rustc/strip.py: no crates come from crates.io: {why}\n{install()}")
+        here = lacks(DEBIAN) or "Debian's crates are here"
+        sys.exit(f"rustc/strip.py: no crates come from crates.io: {why}\n{here}; {install()}")
 
 
 def write(path, text):

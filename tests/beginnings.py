@@ -40,7 +40,7 @@ def ccw_of(word):
 
 
 def word_of(code, address, flags, count):
-    return bytes([code, *address.to_bytes(3), flags, 0, *count.to_bytes(2)])
+    return bytes([code, *address.to_bytes(3, "big"), flags, 0, *count.to_bytes(2, "big")])
 
 
 def is_search(ccw):
@@ -184,6 +184,13 @@ def check_cases(checks, program):
         wanted = [] if begins is None else [f"{abs(begins):06X}"]
         checks.expect(f"the model's note on {name}", wanted, seen)
         checks.expect(name, (0, note), found(program, image, "--at", f"{at:X}"))
+    # the zeros behind an image don't count, so it may be elsewhere though storage is full
+    image = image_of_preamble(0x100, [(0, 0x2000), (0x40, 0x2000)])
+    wanted = f"note: 2 {fitting(2, 0x2000)}\n"
+    full = ["--storage", "1000000"]
+    checks.expect("two loops in full storage", (0, wanted), found(program, image, *full))
+    ran = run(program, "deck", *DEVICE, *full, "--start", "0", "--open", given=image)
+    checks.expect("a deck of two loops in full storage", (0, wanted), (ran.status, ran.error))
     one_left = f"note: 1 {fitting(1, 0x800)}\n"
     for name, changes in NONE_BY.items():
         image = bytearray(image_of_preamble(0x100, [(0, 0x800), (0x40, 0x800)]))

@@ -31,8 +31,7 @@ def stripping():
 def missing():
     """What is missing to build here without a network, or None."""
     strip = stripping()
-    names = strip.lacking(strip.DEBIAN)
-    return strip.fault_of_cargo() or (f"no crates {', '.join(names)}" if names else None)
+    return strip.fault_of_cargo() or strip.lacks(strip.DEBIAN)
 
 
 def workspace():

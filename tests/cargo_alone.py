@@ -3,10 +3,13 @@
 The archive is unpacked in a new folder. There `cargo install --offline` finds a compiler, a linker
 and nothing else on its path, so no Python, no kit and no crates of Debian, and its HOME is empty.
 The program that it installs has the verdicts of the examples. Each crate in the archive has the
-checksums of Debian's crate. Without cargo or the crates the test is left out, by its name.
+checksums of Debian's crate. The archive has a lock and its pages, nothing in it tells when or by
+whom it was packed, and by itself `make dist` puts it in out/. Without cargo or the crates the test
+is left out, by its name.
 """
 
 import shutil
+import tarfile
 import tempfile
 from pathlib import Path
 
@@ -15,10 +18,14 @@ from cargo import missing, stripping
 from examples import EXAMPLES, decks_of, verdicts_of
 from running import Ran, run, text_of
 
-NAME = f"chanv-{version()}-not-proved"
+NAME, ARCHIVE = f"chanv-{version()}-not-proved", "packed.tar.gz"
 # what cargo finds on its path besides itself
 TOOLS = ["cc", "ld"]
 SUMS = ".cargo-checksum.json"
+# files of the archive, besides those of crates
+PACKED = ["Cargo.lock", "Cargo.toml", "README.md", "CHANGELOG.md", ".cargo/config.toml"]
+# mode, time and owner of each file there
+ABOUT = (0o644, 0, 0, 0, "", "")
 
 
 def tools_in(folder):
@@ -37,8 +44,8 @@ def tools_in(folder):
 
 def install(room):
     """Unpacks what `make dist` packs, and has cargo install it in an empty HOME."""
-    must_succeed("make", "-C", ROOT, "dist", f"DIST={room / 'packed.tar.gz'}", timeout=None)
-    must_succeed("tar", "-xzf", room / "packed.tar.gz", "-C", room)
+    must_succeed("make", "-C", ROOT, "dist", f"DIST={room / ARCHIVE}", timeout=None)
+    must_succeed("tar", "-xzf", room / ARCHIVE, "-C", room)
     home, path = room / "home", tools_in(room / "tools")
     home.mkdir()
     alone = ["env", "-i", f"HOME={home}", f"PATH={path}"]
@@ -55,12 +62,29 @@ def check_sums(checks, folder, debian):
         checks.expect(f"the checksums of {crate.name}", wanted, text_of(crate / SUMS))
 
 
+def check_archive(checks, archive):
+    """The same sources give the same archive, on each machine and at any time."""
+    with tarfile.open(archive) as packed:
+        entries = packed.getmembers()
+    names = {it.name for it in entries}
+    for name in PACKED:
+        checks.expect_that(f"{name} is packed", f"{NAME}/{name}" in names, sorted(names)[:20])
+    about = {(it.mode, it.mtime, it.uid, it.gid, it.uname, it.gname) for it in entries}
+    checks.expect("mode, time and owner of its files", {ABOUT}, about)
+    # by RFC 1952 four bytes say when; no flag says that a name follows
+    checks.expect("time and name in its head", bytes(5), archive.read_bytes()[3:8])
+    ran = run("make", "-n", "-C", ROOT, "dist")
+    wanted = f"rustc/dist.py {version()} out/{NAME}.tar.gz\n"
+    checks.expect_that("where make dist packs it", wanted in ran.output, ran)
+
+
 def check(checks, _built):
     if why := missing():
         checks.skip("all of it", why)
         return
     with tempfile.TemporaryDirectory() as room:
         ran, program = install(Path(room))
+        check_archive(checks, Path(room) / ARCHIVE)
         checks.expect("cargo install", 0, ran.status)
         if ran.status != 0:
             checks.fail("what cargo says", *ran.error.splitlines())

@@ -19,7 +19,7 @@ from random import Random
 
 from answers import DECKS, REFUSED, answer, answers, helps, is_told, make_inputs, of_image
 from answers import texts_of_help, whole
-from building import HERE, version
+from building import HERE, must_succeed, version
 from rows import Row, bytes_of, check_rows, sections_of, usage_fault, words_of
 from running import Ran, text_of
 from words import meanings_in
@@ -194,13 +194,14 @@ def check(checks, built):
         make_inputs(folder)
         check_rows(checks, program, rows_of_streams(), cwd=folder)
         check_rows(checks, program, rows_of_names(folder), cwd=folder)
-        # the superuser may read any file, so another user tries
+        # the superuser may read any file, so another user tries, who may not reach the checkout
         (folder / "secret").touch(mode=0)
         folder.chmod(0o755)
         user = {"user": 65534} if os.geteuid() == 0 else {}
+        must_succeed("cp", program, folder / "copied")
         refused = Ran(3, "", CANNOT_OPEN.format("secret", ": permission denied"))
         commands = (["verify"], ["graph"], ["find", "--device", "2314"])
         rows = [Row([*words, "secret"], refused) for words in commands]
-        check_rows(checks, program, rows, cwd=folder, **user)
+        check_rows(checks, folder / "copied", rows, cwd=folder, **user)
     for _ in range(SHOWN_CCWS):
         check_rows(checks, program, rows_of_shown(random))

@@ -1,12 +1,15 @@
 """The laws and a verifier in Coq: all is proved, nothing is lost in translation, verdicts agree.
 
 `make coq` proves every law of chan_walk and chan_needs with no axiom. The translator takes exactly
-the definitions that closure.py counts, prints each back as its file has it, reads operators as the kit
-does, and refuses what it doesn't know, with file and line. The verifier that is proved there says
-the same as the program over all example decks, random jobs, large decks and refused decks.
-Without Coq the test is left out, by its name.
+the definitions that closure.py counts, prints each back as its file has it, reads operators as the
+kit does, and refuses what it doesn't know, with file and line. The comparison with the kit finds
+each difference that a made-up kit has. An error of a proof is an error of `make coq`. The verifier
+that is proved there says the same as the program over all example decks, random jobs, large decks
+and refused decks; it reports refused memory and a failed write; and what stands in OCaml for two
+functions of Coq gives what these give. Without Coq the test is left out, by its name.
 """
 
+import os
 import re
 import shutil
 import sys
@@ -14,31 +17,52 @@ import tempfile
 from pathlib import Path
 from random import Random
 
+from answers import MOST_BYTES
 from building import ROOT, short
 from closure import CRATES, Sources, statements
-from coq_reading import differs, wrong_readings
+from coq_reading import differs, wrong_files, wrong_readings
+from edges import chain_of
 from examples import FOLDERS, SEARCH_LOOP, TEXTS, decks_of
 from expecting import CannotRun
 from model import SEED, deck_of, jobs_of
 from refused_decks import refused
-from running import run, text_of
+from running import Ran, run, run_in_bash, text_of, write_script
 from speed import decks_of_bench
 
 HERE = ROOT / "coq"
 sys.path.insert(0, str(HERE))
 
-from kit import differences_to  # noqa: E402
-from translate import Translation  # noqa: E402
+from kit import DECLARES, OPERATORS, TEXTS as OF_THE_KIT, differences_to  # noqa: E402
+from translate import FIXITY, Translation  # noqa: E402
 
 TOOLS = ["coqc", "coq_makefile", "ocamlopt", "make"]
 PROGRAM = ROOT / "out/coq/chanv-coq"
 JOBS = 2000
-# seconds of the clock that a deck may take: one with 65,536 places, and one with 16 MiB of storage
+# seconds of a processor that a deck may take, with 65,536 places and with 16 MiB of storage
 MOST = {"places-65536": 10, "chain-in-full-storage": 10}
 
 # the files of laws, and how many reasons a no can have
 LAWS = ["chan_walk/src/laws.rt", "chan_needs/src/laws.rt"]
 REASONS = 16
+
+# KiB of memory that are too few for a deck with 16 MiB of storage
+TOO_FEW = range(8000, 16000, 1000)
+OUT_OF_MEMORY = "chanv-coq: {}: out of memory\n"
+
+# a statement of Laws.v: what is proved, the law if it is one, and what is asked for its axioms
+STATED = re.compile(
+    r"^Check \(?(\w+)(?: : (\w+)\))?\.(?: +Print Assumptions (\w+)\.)?$", re.MULTILINE
+)
+
+# in place of coq_makefile and coqc: one makes nothing, one fails over a file
+MAKES_NOTHING = "#!/bin/sh\nprintf 'all:\\n' > Makefile.proofs\n"
+FAILS_OVER = '#!/bin/sh\nfor file; do :; done\necho "$file" >> coqc.said\n[ "$file" != "$FAILS" ]\n'
+# the file over which coqc fails, and whether make does
+PROVING = [("none", True), ("Laws.v", False), ("Extract.v", False)]
+
+# pairs of numbers for what OCaml has in place of functions of Coq
+PAIRS = [(a, b) for a in (0, 1, 5, 8, 15, 16, 88, 255, 256, 1000) for b in (0, 1, 2, 7, 8, 16, 255)]
+IN_COQ = "From Coq Require Import List PeanoNat.\nImport ListNotations.\nCompute {}.\n"
 
 
 def missing():
@@ -54,13 +78,17 @@ def names_of_laws():
 def check_laws(checks, said):
     """Each law is stated in Laws.v, and what it assumes is nothing."""
     text = text_of(HERE / "Laws.v")
-    proved = re.findall(r"Check \(\w+ : (\w+)\)\.", text)
+    stated = STATED.findall(text)
+    checks.expect("statements, a line each", text.count("Check "), len(stated))
+    for name, _, asked in stated:
+        checks.expect(f"what is printed beside {name}", name, asked)
+    proved = [law for name, law, asked in stated if law and name == asked]
     for file in LAWS:
         for law in re.findall(r"ensures \{ (\w+) \}", text_of(CRATES / file)):
             checks.expect_that(f"{law} is proved in Coq", law in proved, proved)
     checks.expect_that("laws that are translated", {*proved} <= {*names_of_laws()}, proved)
-    asked, closed = text.count("Print Assumptions"), said.count("Closed under the global context")
-    checks.expect("statements without an axiom", asked, closed)
+    closed = said.count("Closed under the global context")
+    checks.expect("statements without an axiom", len(stated), closed)
     unfinished = r"\b(Axiom|Parameter|Conjecture|Admitted|admit|give_up)\b"
     for path in sorted(HERE.glob("*.v")):
         checks.expect(f"what {short(path)} leaves open", [], re.findall(unfinished, text_of(path)))
@@ -108,8 +136,14 @@ def check_verdicts(checks, program, room):
         decks.append(room / f"job-{number}.deck")
         decks[-1].write_text("".join(f"{line}\n" for line in deck_of(job)))
     few = text_of(SEARCH_LOOP).replace("chanv deck 1", "chanv deck 2")
-    decks.append(room / "few.deck")
-    decks[-1].write_text(few.replace("start 000800\n", "start 000800\nlimit 00001\n"))
+    few = few.replace("start 000800\n", "start 000800\nlimit 00001\n")
+    for name, text in [
+        ("few", few),
+        ("as many as version 1 takes", chain_of(4096)),
+        ("more than version 1 takes", chain_of(4097)),
+    ]:
+        decks.append(room / f"{name}.deck")
+        decks[-1].write_text(text)
     ours, theirs = verdicts(PROGRAM, decks), verdicts(program, decks)
     for deck, one, other in zip(decks, ours[1].splitlines(), theirs[1].splitlines()):
         checks.expect(f"{deck.name}: the verdict in Coq", other, one)
@@ -124,6 +158,9 @@ def check_refused(checks, program, room):
     decks = [room / f"text-{number}.deck" for number in range(len(texts))]
     for deck, text in zip(decks, texts):
         deck.write_bytes(text)
+    decks.append(room / "long.deck")
+    shutil.copy(SEARCH_LOOP, decks[-1])
+    os.truncate(decks[-1], MOST_BYTES + 1)
     checks.expect("refused decks in Coq", verdicts(program, decks), verdicts(PROGRAM, decks))
 
 
@@ -141,11 +178,111 @@ def check_statuses(checks, room):
     checks.expect_that("it says what is proved", "proved in Coq" in said, said)
 
 
+def check_failures(checks, room):
+    """Refused memory and a failed write are reported, and no verdict takes their place."""
+    ran = run_in_bash('exec "$@" > /dev/full', PROGRAM, "verify", SEARCH_LOOP)
+    checks.expect("a full device", Ran(3, "", "chanv-coq: write failed\n"), ran)
+    deck = room / "large.deck"
+    deck.write_text(re.sub("storage .*", "storage 1000000", text_of(SEARCH_LOOP)))
+    checks.expect("a large deck", Ran(0, f"{deck}: yes\n"), run(PROGRAM, "verify", deck))
+    limited = 'ulimit -v "$1"; shift; exec "$@"'
+    found = [run_in_bash(limited, str(few), PROGRAM, "verify", deck) for few in TOO_FEW]
+    checks.expect_that("verdicts without memory", not any(it.output for it in found), found)
+    reported = Ran(3, "", OUT_OF_MEMORY.format(deck))
+    checks.expect_that("refused memory is reported", reported in found, found)
+
+
+def made_up_kit():
+    """The files of a kit in which nothing differs."""
+    files = {}
+    for file, operators in OPERATORS.items():
+        for operator in operators.split():
+            strength, side = FIXITY[operator]
+            files[file] = files.get(file, "") + f"{DECLARES[side]} {strength} ◌{operator}◌\n"
+    for file, texts in OF_THE_KIT.items():
+        files[file] = files.get(file, "") + "\n".join(texts)
+    return files
+
+
+def other_kits():
+    """Each file that differs, and what the script has to say of it."""
+    files = made_up_kit()
+    for file, operators in OPERATORS.items():
+        for operator in operators.split():
+            strength, side = FIXITY[operator]
+            declared = f"{DECLARES[side]} {strength} ◌{operator}◌\n"
+            for other in (
+                f"{DECLARES[side]} {strength + 1} ◌{operator}◌\n",
+                declared.replace(DECLARES[side], "infixl" if side != "left" else "infixr"),
+                "",
+            ):
+                yield file, files[file].replace(declared, other), f"{operator}: "
+    for file, texts in OF_THE_KIT.items():
+        for text in texts:
+            for other in (text.replace(text[-2], "other", 1), "", f"{text}{text}"):
+                yield file, files[file].replace(text, other), f"{file}: {text!r}"
+
+
+def check_kit(checks, room):
+    """The comparison with the kit finds each difference, and then has another status."""
+    kit = room / "kit"
+    for file, text in made_up_kit().items():
+        (kit / file).parent.mkdir(parents=True, exist_ok=True)
+        (kit / file).write_text(text)
+    checks.expect("a kit that doesn't differ", [], [*differences_to(kit)])
+    script = [sys.executable, "-B", HERE / "kit.py", kit]
+    checks.expect("the script over it", Ran(0, "nothing differs\n"), run(*script))
+    for file, text, begin in other_kits():
+        was = text_of(kit / file)
+        (kit / file).write_text(text)
+        said = [*differences_to(kit)]
+        found = any(line.startswith(begin) for line in said)
+        checks.expect_that(f"a kit that differs: {begin}", found, said)
+        (kit / file).write_text(was)
+    (kit / file).write_text(text)
+    checks.expect("the script's status over a kit that differs", 1, run(*script).status)
+
+
+def check_proving(checks, room):
+    """`make` fails if Coq does, whichever file comes last."""
+    tools = room / "tools"
+    tools.mkdir()
+    write_script(tools / "coq_makefile", MAKES_NOTHING)
+    write_script(tools / "coqc", FAILS_OVER)
+    for fails, is_made in PROVING:
+        out = room / f"fails over {fails}".replace(" ", "-")
+        shutil.copytree(PROGRAM.parent, out)
+        (out / "verifier.ml").unlink()
+        given = {**os.environ, "PATH": f"{tools}:{os.environ['PATH']}", "FAILS": fails}
+        ran = run("make", "-C", HERE, f"OUT={out}", "proofs", out / "verifier.ml", env=given)
+        checks.expect_that(f"make, where {fails} fails", (ran.status == 0) == is_made, ran)
+        said = text_of(out / "coqc.said").split()
+        checks.expect_that(f"what was tried, where {fails} fails", "Laws.v" in said, said)
+
+
+def check_extraction(checks, room):
+    """What OCaml has in place of functions of Coq gives what these give."""
+    inlined = re.findall(r'Extract Inlined Constant (\S+) => "(.*)"\.', text_of(HERE / "Extract.v"))
+    checks.expect("functions of OCaml", ["Nat.land", "Nat.modulo"], [name for name, _ in inlined])
+    for name, code in inlined:
+        pairs = "; ".join(f"({a}, {b})" for a, b in PAIRS)
+        asked = f"List.map (fun p => {name} (fst p) (snd p)) [{pairs}]"
+        (room / "asked.v").write_text(IN_COQ.format(asked))
+        in_coq = run("coqc", "-w", "none", "asked.v", cwd=room).output.partition(":")[0]
+        ask = f"List.iter (fun (a, b) -> Printf.printf \"%d \" ({code} a b)) [{pairs}]\n"
+        (room / "asked.ml").write_text(ask)
+        run("ocamlopt", "-w", "-a", "asked.ml", "-o", "asked", cwd=room)
+        in_ocaml = run(room / "asked").output
+        numbers = [re.findall(r"\d+", it) for it in (in_coq, in_ocaml)]
+        checks.expect(f"how many results of {name}", len(PAIRS), len(numbers[0]))
+        checks.expect(f"{name} in OCaml", *numbers)
+
+
 def check_speed(checks, room):
     for name, most in MOST.items():
         deck = room / f"{name}.deck"
         deck.write_text("".join(decks_of_bench()[name]()))
-        ran = run(PROGRAM, "verify", deck, timeout=most)
+        ran = run(PROGRAM, "verify", deck, processor=most)
         checks.expect(f"{name} in {most} s", (0, f"{deck}: yes\n"), (ran.status, ran.output))
 
 
@@ -160,6 +297,7 @@ def check(checks, built):
     check_marks(checks)
     check_translation(checks)
     checks.expect("readings that aren't the kit's", [], [*wrong_readings()])
+    checks.expect("files that are read otherwise", [], [*wrong_files()])
     if shutil.which("rt"):
         kit = Path(text_of(run("rt", "doc").output.encode()).strip()).parent / "rattle"
         checks.expect("what differs from the kit", [], [*differences_to(kit)])
@@ -170,4 +308,8 @@ def check(checks, built):
         check_verdicts(checks, program, room)
         check_refused(checks, program, room)
         check_statuses(checks, room)
+        check_failures(checks, room)
+        check_kit(checks, room)
+        check_proving(checks, room)
+        check_extraction(checks, room)
         check_speed(checks, room)

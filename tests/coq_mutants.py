@@ -201,11 +201,24 @@ def is_refuted(named):
         return translated(edits_of(name), room) or first_failure(room, "Refuted.vo")
 
 
+def every():
+    """All mutants that Coq has to refuse."""
+    return [*MUTANTS, *of_must_fail()]
+
+
+def leave_out(checks, tried):
+    """Names how many mutants this run isn't asked for."""
+    left = len(every()) - len(tried)
+    if left:
+        checks.leave_out(f"{left} refusals", "COQ_MUTANTS=all tries them")
+
+
 def check(checks, _built):
     if missing():
         checks.skip("all of it", f"not here: {', '.join(missing())}")
         return
-    tried = [*MUTANTS, *of_must_fail()] if os.environ.get("COQ_MUTANTS") == "all" else USUAL
+    tried = every() if os.environ.get("COQ_MUTANTS") == "all" else USUAL
+    leave_out(checks, tried)
     parts = [*refutations()]
     with ThreadPoolExecutor(AT_ONCE) as beside:
         failing = [beside.submit(outcome, name) for name in tried]

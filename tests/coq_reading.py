@@ -3,17 +3,19 @@
 A definition that was read is written back in the notation of the specs, with every operator in
 parentheses, and compared with its file word by word; parentheses, and signs after a last part, are
 left out. READ has texts with the order in which the kit reads them, REFUSED texts that the
-translator may not read.
+translator may not read, and FILES files of definitions, each with why it is refused, or None.
 """
 
 import sys
+import tempfile
 from itertools import zip_longest
+from pathlib import Path
 
 from building import ROOT
 
 sys.path.insert(0, str(ROOT / "coq"))
 
-from translate import Abbrev, Data, Reader, Record, Refused, read_item, words  # noqa: E402
+from translate import Abbrev, Data, Reader, Record, Refused, Source, read_item, words  # noqa: E402
 
 READ = {
     "a ++ b ++ c": "((a ++ b) ++ c)",
@@ -52,6 +54,22 @@ REFUSED = [
     "record { a = record { b = c } . }",
     "a / b",
     "a ^ b",
+]
+A, B = "abbrev pub A : ℕ\nA = 1\n", "abbrev pub B : ℕ\nB = 2\n"
+FILES = [
+    (f"use Rattle.x.specs.X.{{C, D}}\nuse Rattle.y.specs.Y.{{E}}\n{A}{B}", None),
+    (f"{A}{B}{A}", "5: A twice"),
+    (f"use Rattle.x.specs.X.{{B, A}}\n{A}", "2: A twice"),
+    ("use Rattle.x.specs.X.{A, B, A}\n", "1: A twice"),
+    ("use Rattle.x.specs.X.{A}\nuse Rattle.y.specs.Y.{A}\n", "2: A twice"),
+    ("use Rattle.x.TheVariants as A\nuse Rattle.y.TheVariants as A\n", "2: A twice"),
+    ("use Rattle.x.specs.X.{A}\nuse Rattle.y.TheVariants as A\n", "2: A twice"),
+    ("use Rattle.x.specs.X.{A as B}\n", "1: A as B"),
+    (f"{A}\tA\n", "3: a tab"),
+    (f"  A = 1\n{A}", "1: an indented line first"),
+    (f"{A}infix 5 A\n", "3: infix 5 A"),
+    (f"{A}pub mod m\n", "3: pub mod m"),
+    (f"{A}B = 2\n", "3: no definition: B = 2"),
 ]
 
 
@@ -148,3 +166,19 @@ def wrong_readings():
             yield text, found
         except Refused:
             pass
+
+
+def wrong_files():
+    """The files of FILES that are read or refused otherwise."""
+    for text, wanted in FILES:
+        with tempfile.TemporaryDirectory() as room:
+            path = Path(room, "crates/c/specs/File.antt")
+            path.parent.mkdir(parents=True)
+            path.write_text(text)
+            try:
+                Source(room, "c", "File", (0,))
+                found = None
+            except Refused as why:
+                found = str(why).removeprefix("crates/c/specs/File.antt:")
+        if found != wanted:
+            yield text, found

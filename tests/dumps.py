@@ -193,6 +193,27 @@ def check_hercules(checks, program, random):
         checks.expect(f"{name} in a log of Hercules", expected, both(program, log.encode()))
 
 
+# lines that may come between the lines of a dump
+HEADS = """\
+JOB READER STEP GO TIME 101500 DATE 66001
+COMPLETION CODE SYSTEM = 0C4
+NUCLEUS
+REGS AT ENTRY TO ABEND
+FLTS 0-6
+FLTR 0-6
+P/P STORAGE
+SP 000
+LOAD MODULE READER
+CSECT 1 OF 1
+TRACE TABLE
+PAGE 0002
+END OF DUMP
+HHC00007I entered
+r 800.8
+quit
+"""
+PASSED = "note: lines without an address, passed over: {}\n"
+
 # typed texts: the bytes by their addresses, and what is said
 TYPED = [
     (
@@ -213,6 +234,7 @@ TYPED = [
         "",
     ),
     ("words of two bytes after a colon", "800: 0700 0900 4000", {0x800: "070009004000"}, ""),
+    ("a word of two bytes and a byte", "800 0700 09", {0x800: "070009"}, ""),
     ("lower case", "00a0c 0c0a", {0xA0C: "0C0A"}, ""),
     ("one byte in a line", "100 01\n101 02\n102 03\n", {0x100: "010203"}, ""),
     (
@@ -251,6 +273,17 @@ TYPED = [
         {0x800: "01020304" * 5},
         "note: lines without an address, passed over: 2\n",
     ),
+    *(
+        (f"{head} between lines", f"800 07\n{head}\n801 08\n", {0x800: "0708"}, PASSED.format(1))
+        for head in HEADS.splitlines()
+    ),
+    (
+        "a gap after a head and after a comment",
+        "800 07\nPAGE 2\n802 08\n; here\n804 09\n",
+        {0x800: "07", 0x802: "08", 0x804: "09"},
+        f"{PASSED.format(1)}note: zeros in gaps of the dump: 2, at 000801, 000803\n",
+    ),
+    ("a form feed before a page", "800 07\n\fPAGE 2\n801 08\n", {0x800: "0708"}, PASSED.format(1)),
     (
         "Hercules at an odd address",
         "R:00000801:K:06=000900 40000006 31000902 40000005 08 ... ....... ....\n",
@@ -267,6 +300,7 @@ TYPED = [
     ("digits that are no text", "000: 4142  005A\n", {0: "4142005A"}, ""),
     ("octal", "0004000 07 00\n0004002 09\n", {0x800: "070009"}, ""),
     ("seven digits with a colon", "0004000: 07 00\n", {0x4000: "0700"}, ""),
+    ("seven digits that aren't octal", "0000800 07\n0000801 08\n", {0x800: "0708"}, ""),
     ("an end", "000800 0700\n000802\n", {0x800: "0700"}, ""),
     ("the end of storage", "FFFFF9 00000000000007\n1000000\n", {0xFFFFFF: "07"}, ""),
     (
@@ -287,6 +321,8 @@ WRONG = [
     ("half a byte before a comment", "800 07\n801 0;70\n", 2, HALF, 4),
     ("a word in a line", "800 07\nhere 801 08\n", 2, LINE, 0),
     ("a line without an address", "800 07\n  code 08\n", 2, LINE, 2),
+    ("a head later in a line", "800 07\nend of PAGE 2\n", 2, LINE, 0),
+    ("a letter right after an address", "800 07\n801g 08\n", 2, LINE, 0),
     ("a prompt after the dump", "800 07\n$ \n", 2, LINE, 0),
     ("another byte", "800 0708\n900 09\n800 0709\n", 3, DIFFERS, 6),
     ("a repeat over a byte", "802 09\n800 07\n*\n803\n", 4, AGAIN, 0),
@@ -294,6 +330,7 @@ WRONG = [
     ("a step that is too short", "800 07080910\n802 09101112\n", 2, STEP, 0),
     ("a gap of one byte", "800 07 000900 40 0006\n808 08\n", 2, GAP, 0),
     ("a lost byte", f"000 {'11' * 16}\n010 {'22' * 15}\n020 {'33' * 16}\n", 3, GAP, 0),
+    ("a lost half", f"000 {'11' * 16}\n010 {'22' * 8}\n020 {'33' * 16}\n", 3, GAP, 0),
     ("decimal addresses", f"000: {'11' * 16}\n016: {'22' * 16}\n", 2, GAP, 0),
     ("decimal addresses of seven digits", f"0000000 {'11' * 8}\n0000008 {'22' * 8}\n", 2, OCTAL, 6),
     ("an end before the end", "800 0708\n801\n", 2, STEP, 0),
@@ -311,6 +348,8 @@ WRONG = [
     ("lines of half a line", "000800 01020304\nLINES 000804-000806 SAME AS ABOVE\n", 2, REPEAT, 0),
     ("lines of none", "LINES 000804-000806 SAME AS ABOVE\n800 07\n", 1, REPEAT, 0),
     ("a missing word", "000800   07000900          20000010 *..*\n000810 07\n", 1, APART, 27),
+    ("nine blanks", "800 07000900         40000006\n", 1, APART, 21),
+    ("nine blanks in front", "800 07\n801         08\n", 2, APART, 12),
     ("missing words in front", "000804 07\n000820            07000900 *..*\n", 2, APART, 18),
     ("a number before", "0x800 07\n800 O7\n801 07\n", 2, DIGIT, 4),
     ("four bytes of the only line", "800 07000900 4O000006\n", 1, HALF, 13),

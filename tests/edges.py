@@ -1,17 +1,25 @@
-"""The longest deck, most places, each kind of note, most notes of a kind, and high addresses."""
+"""The longest deck, most places, seeks beside extents, each kind of note, most notes of a kind, and
+high addresses."""
 
 import re
+import sys
 from itertools import product
 from pathlib import Path
 
 from answers import MOST_BYTES
+from building import HERE
 from cures import UNSEEN, help_of
 from examples import SEARCH_LOOP
 from model import Answer, limit_line
 from rows import Row, check_rows
 from running import Ran
+from speed import GOLDEN, STORAGE_LIMIT
 from wide import two_ways_deck
-from writing import job_of
+
+sys.path.insert(0, str(HERE / "model"))
+
+from judging import reachable  # noqa: E402
+from writing import job_of  # noqa: E402
 
 YES, MANY = Ran(0, "yes\n"), Ran(2, "", "chanv: too many places\n")
 TOO_LONG = Ran(2, "", "chanv: deck too long\n")
@@ -22,6 +30,10 @@ FIRST_ROW = '"$@" | head -n 1; exit "${PIPESTATUS[0]}"'
 END, CHAINED = "0300000000000001", "0300000040000001"
 LOOP = ["3100090040000005", "0800080000FF0000", "06000A0020000050"]
 SEARCH = "000800 fresh t {} 31 000900 -C---0 00 0005 write search-id-equal\n"
+# how many lists the walk makes at most, and how many doublewords of storage then share a list
+MOST_LISTS, MOST_SHARING = 262_144, 9
+# data that each CCW of a program moves, a search over it, and what begins the data chains
+DATA, SEARCH_DATA, DATA_CHAINS = "001000", "3100100040000005", ("06", "05", "31")
 NOT_FETCHED = f"""\
 no 000800 fetch-not-lent
 {SEARCH.format("*")}because none of 000900-000904 is lent for fetching
@@ -78,6 +90,39 @@ def chain_of(count, limit=None, last=END):
     return deck_of([CHAINED] * (count - 1) + [last], limit=limit)
 
 
+def sharing():
+    """A deck whose walk searches the longest list: nine doublewords share a list however many lists
+    there are, and the program comes to each in all eight ways, twice. The limit is left open."""
+    shared = next(it for it in doublewords_by_list().values() if len(it) == MOST_SHARING)
+    words, targets = {}, []
+    for at in shared:
+        # the search leads to both CCWs behind it, and the read leads on as it is entered
+        words |= {at - 16: SEARCH_DATA, at - 8: f"06{DATA}80000001", at: f"03{DATA}20000001"}
+        targets += [(at - 16, ""), (at - 8, "05"), (at - 8, "31"), (at, "")]
+        targets += [(at, code) for code in DATA_CHAINS]
+    rung, driver = 0x2000, 0x2000 + 32 * len(targets) + 8
+    for at, code in 2 * targets:
+        words |= {rung: SEARCH_DATA, rung + 8: f"08{driver if code else at:06X}00000000"}
+        rung += 16
+        if code:
+            words |= {driver: f"{code}{DATA}80000005", driver + 8: f"08{at:06X}00000000"}
+            driver += 16
+    words[rung] = END
+    head = "chanv deck 2\ndevice 2314\nmask C0\nstart 002000\nlimit {:05}\nextent 000 202\n"
+    puts = "".join(f"put {at:06X} {word}\n" for at, word in sorted(words.items()))
+    return f"{head}fetch {DATA} 000005\nstore {DATA} 000005\nstorage 1000000\n{puts}end\n"
+
+
+def doublewords_by_list():
+    """Doublewords from 008000 on by the list that they pick, up to one with most of them."""
+    lists = {}
+    for at in range(0x8000, STORAGE_LIMIT, 8):
+        chosen = lists.setdefault(at // 8 * GOLDEN % 2**32 * MOST_LISTS >> 32, [])
+        chosen.append(at)
+        if len(chosen) == MOST_SHARING:
+            return lists
+
+
 def longest():
     """A deck of as many bytes as a text may have: two extents, 3,355,437 areas, and one CCW."""
     return deck_of([END], ["extent 010 019"] + ["fetch 000900 000010"] * 3_355_437, 0x1000)
@@ -111,6 +156,10 @@ def rows_of_limits():
     yield over(chain_of(4097, 4096), MANY)
     yield over(chain_of(4097, 4097), YES)
     yield over(chain_of(4098, 4097), MANY)
+    deck = sharing()
+    count = len(reachable(job_of(deck.format(4096))))
+    yield over(deck.format(count), YES, about="places that share a list")
+    yield over(deck.format(count - 1), MANY, about="one more place that shares a list")
     for limit in (2, 5000, 65535, 65536):
         said = f"{MANY.error}{limit_line(limit)}\n"
         yield over(chain_of(limit + 1, limit), MANY._replace(error=said), "why")
@@ -156,6 +205,27 @@ def rows_of_exchanged():
     yield explained(two_ways_deck(), Ran(1, fetching, f"{UNSEEN}\n"))
 
 
+def rows_of_seeks():
+    """A seek outside its extent, to the device's last cylinder and to the next; and to the cylinder
+    behind two extents that adjoin, in both orders."""
+    for cylinder, why in [(202, "is in no extent"), (203, "is above 202, the device's last")]:
+        argument = f"0000{cylinder:04X}00000000"
+        place = f"control seek (cylinder {cylinder}, head 0)"
+        output = f"no 000800 seek-outside\n000800 fresh t * 07 000808 -----0 00 0006 {place}\n"
+        why = f"because cylinder {cylinder} {why}: the argument is {argument[:12]} at 000808-00080D"
+        deck = deck_of(["0700080800000006", argument], ["fetch 000808 000006"], 0x1000)
+        yield explained(deck, Ran(1, f"{output}{why}\n"))
+    for first, middle, last in [(10, 14, 19), (1, 100, 201), (198, 200, 201)]:
+        extents = [f"extent {first:03} {middle:03}\n", f"extent {middle + 1:03} {last:03}\n"]
+        cylinders = first, middle + 1, last, last + 1
+        for lines, cylinder in product((extents, extents[::-1]), cylinders):
+            argument = f"0000{cylinder:04X}00000000"
+            deck = deck_of(["0700080800000006", argument], ["fetch 000808 000006"], 0x1000)
+            deck = deck.replace("extent 010 019\n", "".join(lines))
+            expected = Ran(1, "no 000800 seek-outside\n") if cylinder > last else YES
+            yield over(deck, expected, about=f"{lines}, cylinder {cylinder}")
+
+
 def many_noted(count, more):
     """Decks with so many notes of a kind, and the notes: areas lent in vain, of which those that
     adjoin have one note; areas that overlap and reach past storage; and CCWs of each sort."""
@@ -195,6 +265,15 @@ def rows_of_notes():
     ccws = ["03000A0080000001", "0800080000000000", "06000A0080000001", "0800080000000000"]
     loop = deck_of(ccws, ["store 000A00 000001"]).replace("start 000800", "start 000810")
     yield over(loop, YES._replace(error=noted([HANGS.format("000800", "in")])), "why")
+    # neither a transfer's flags nor its byte 5 mean anything
+    loop = [LOOP[0], "0800080008FF0000", END]
+    yield over(deck_of(loop, ["fetch 000900 000005"]), YES, "why")
+    # a mask byte right before, at both ends of and right behind what the machine stores
+    kept = "note: keep {:06X} 000001 is where the machine stores PSWs, the CSW or the timer\n"
+    for byte in (0x17, 0x18, 0x47, 0x48, 0x4F, 0x50, 0x53, 0x54):
+        is_stored = 0x18 <= byte <= 0x47 or 0x50 <= byte <= 0x53
+        deck = deck_of([f"1F{byte:06X}00000001"], [f"fetch {byte:06X} 000001"])
+        yield over(deck, YES._replace(error=kept.format(byte) * is_stored), "why")
     more_of = {99: "", 100: "", 101: "note: 1 more such\n", 250: "note: 150 more such\n"}
     for count, more in more_of.items():
         for deck, notes in many_noted(count, more):
@@ -250,5 +329,11 @@ def rows_of_high_addresses():
 
 def check(checks, built):
     checks.expect("the length of the longest deck", MOST_BYTES, len(longest()))
-    for rows in (rows_of_limits, rows_of_exchanged, rows_of_notes, rows_of_high_addresses):
+    for rows in (
+        rows_of_limits,
+        rows_of_exchanged,
+        rows_of_seeks,
+        rows_of_notes,
+        rows_of_high_addresses,
+    ):
         check_rows(checks, built.chanv(), rows())

@@ -27,7 +27,7 @@ class Checks:
     def __init__(self, test):
         self.test = test
         self.passed = self.failed = 0
-        self.skipped = []
+        self.skipped, self.left_out = [], []
         self.could_run = True
 
     def fail(self, name, *details):
@@ -37,6 +37,10 @@ class Checks:
     def skip(self, part, why):
         """Names a part of the test that isn't tried here, and says why."""
         self.skipped.append(f"skipped {self.test}: {part}: {why}")
+
+    def leave_out(self, part, why):
+        """Names a part of the test that this run isn't asked for, and says what asks for it."""
+        self.left_out.append(f"left out {self.test}: {part}: {why}")
 
     def expect_that(self, name, is_so, seen):
         if is_so:
@@ -96,16 +100,18 @@ def carry_out(name, check, *given):
 
 
 def finish(tests, may_skip=True):
-    """Names what was skipped, and prints the last line over all tests. The status is 0 if all
-    passed, 1 if a check failed or none was made, and 2 if a test couldn't run. What was skipped
-    counts as failed if it may not be."""
+    """Names what was left out and what was skipped, and prints the last line over all tests. The
+    status is 0 if all passed, 1 if a check failed or none was made, and 2 if a test couldn't run.
+    What was skipped counts as failed if it may not be; what was left out never does."""
     whole = Checks("all")
     skipped = [part for test in tests for part in test.skipped]
+    for part in (part for test in tests for part in test.left_out):
+        say(part)
     for part in skipped:
         say(part if may_skip else f"FAILED {part}")
     whole.passed = sum(test.passed for test in tests)
     whole.failed = sum(test.failed for test in tests) + (0 if may_skip else len(skipped))
-    say(whole)
+    say(f"{whole}, {len(skipped)} skipped" if skipped and may_skip else whole)
     if not all(test.could_run for test in tests):
         return 2
     return 1 if whole.failed or not whole.passed else 0

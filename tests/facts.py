@@ -10,20 +10,23 @@ the jobs of `model` and `peer`.
 Two facts are in two places of the sources, because C has to be told, and because a constant text of
 the language can't be put together of others: the numbers of the header with the largest storage,
 and lines of the usage. The header's comments say numbers again, and what a caller must do before a
-yes counts, which a page says in the same words.
+yes counts, which a page says in the same words. Each other sentence of the header is a line of
+rows/header.txt, under what it is about and the tests that show what it says. So a sentence changes
+only together with that line, and with a look at these tests.
 """
 
 import re
 
 import model
 import peer
-from building import ROOT
+from building import HERE, ROOT
 from examples import FOLDERS, TEXTS, decks_of
 from running import text_of
 
 DOCS = ROOT / "docs"
 HEADER = ROOT / "crates/chanv_c/include/chanv.h"
-OPTIONS = "crates/chan_run/src/options.rt"
+SENTENCES = HERE / "rows/header.txt"
+OPTIONS = "crates/chan_args/src/option_text.rt"
 # what the manual says in short, in the words of THEOREM
 IN_SHORT = [
     "main storage from address 0 on",
@@ -86,6 +89,37 @@ def check_duties(checks):
     for page, words in ASKED:
         checks.expect_that(f"the header says: {words}", words in header, words)
         checks.expect_that(f"{page} says: {words}", words in plain(text_of(DOCS / page)), words)
+
+
+def sentences_of(block):
+    """The sentences of a block of the header: of the comment before it, and of those on fields."""
+    front, code = re.match(r"(?s)(?:/\*(.*?)\*/)?(.*)", block).groups()
+    yield from re.split(r"(?<=\D[.?]) (?=[A-Z]|chanv_|- )", plain("\n" + (front or "")))
+    for what, comment in re.findall(r"(?ms)([^;,{}/]+?)[;,]?\s*/\*(.*?)\*/", code):
+        yield f"{plain(what)}: {plain(comment)}"
+
+
+def header_blocks():
+    """What each block of the header with a comment is about, and its sentences."""
+    about = r"(?m)^(?:struct|enum) (chanv_\w+) \{|\b(chanv_\w+)\(|^#(?:define|ifndef) (CHANV_\w+)|$"
+    for block in text_of(HEADER).split("\n\n"):
+        if "/*" in block:
+            code = re.sub(r"(?s)/\*.*?\*/", "", block)
+            names = [name for it in re.findall(about, code) for name in it if name]
+            yield names[0], [*filter(None, sentences_of(block))]
+
+
+def check_sentences(checks):
+    """Each sentence of the header is one of its table, whose tests there are."""
+    rows = re.findall(r"(?m)^\[(\w+)\] (.*)\n((?:[^\[\n].*\n)+)", text_of(SENTENCES))
+    said = {name: [*lines.splitlines()] for name, _, lines in rows}
+    found = dict(header_blocks())
+    checks.expect("what the header speaks about", [*said], [*found])
+    for name, sentences in found.items():
+        checks.expect(f"the header on {name}", said.get(name), sentences)
+    for name, tests, _ in rows:
+        for test in tests.split():
+            checks.expect_that(f"{name}, the test {test}", (HERE / f"{test}.py").is_file(), test)
 
 
 def check_comments(checks):
@@ -160,16 +194,6 @@ def usages():
     return dict(re.findall(r'(?s)const (USAGE\w*): &str = "(.*?)";', source))
 
 
-def check_usage(checks):
-    """Each line of a command's usage is one of the usage of the program."""
-    commands = usages()
-    lines = commands.pop("USAGE").split("\n       ")
-    checks.expect("how many commands have a usage of their own", 6, len(commands))
-    for name, usage in commands.items():
-        for line in usage.split("\n       "):
-            checks.expect_that(f"a line of {name}", line in lines, line)
-
-
 def check_manual(checks):
     """The manual has the usage of help and `help` itself, the devices of the option, and of the
     lines `keep` what `chanv explain` says."""
@@ -194,6 +218,28 @@ def check_machine_stores(checks):
     row = re.search(r"(?m)^\| `keep SSSSSS.*$", text_of(DOCS / "OUTPUT.md"))[0]
     stored = [f"{first}-{last}", "-".join(timer)]
     checks.expect("where the machine stores", re.findall(r"`(\w{6}-\w{6})`", row), stored)
+
+
+def check_walks(checks):
+    """Each page that says how often `chanv_take_in` walks says what the code does."""
+    source = text_of(ROOT / "crates/chanv_c/src/needs.rt")
+    walks = len(re.findall(r"\bmatch needs_of\(", source))
+    pages = [ROOT / "CHANGELOG.md", ROOT / "bench/README.md", *sorted(DOCS.glob("*.md"))]
+    how = r"chanv_take_in (?:judges|walks|surveys)[^.]*?\b(once|twice)\b"
+    said = [word for page in pages for word in re.findall(how, plain(text_of(page)))]
+    checks.expect("how often chanv_take_in walks", [["once", "twice"][walks - 1]] * 2, said)
+
+
+def check_crates(checks):
+    """The house of CONTRIBUTING and the picture of the crates call what each is by the same words."""
+    house = text_of(DOCS / "CONTRIBUTING.md").partition("## The house")[2].partition("\n## ")[0]
+    rooms = dict(re.findall(r"(?m)^    (\w+) +(.*)$", house))
+    labels = re.findall(r'label = "(\w+)\\n(.*?)"', text_of(DOCS / "crates.dot"))
+    checks.expect_that("the picture has labels", len(labels) > 10, labels)
+    for name, label in labels:
+        words = set(re.findall(r"\w+", label)) - {"a", "an", "of", "the", "s"}
+        said = set(re.findall(r"\w+", rooms.get(name, "")))
+        checks.expect(f"words on {name} that its room lacks", set(), words - said)
 
 
 def check_counts(checks):
@@ -237,13 +283,15 @@ def check_kit(checks):
 def check(checks, _built):
     check_premises(checks)
     check_duties(checks)
+    check_sentences(checks)
     check_comments(checks)
     check_reasons(checks)
     check_choices(checks)
     check_answers(checks)
     check_numbers(checks)
-    check_usage(checks)
     check_manual(checks)
     check_machine_stores(checks)
+    check_walks(checks)
+    check_crates(checks)
     check_counts(checks)
     check_kit(checks)

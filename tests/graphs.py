@@ -521,7 +521,7 @@ def made_jobs():
     yield from map(job_over, [*rare, OVER_TWICE, TWO_TRANSFERS])
     yield job_over(RING, 8)
     # a note for each area
-    for count in (MOST_NOTES, MOST_NOTES + 1):
+    for count in (MOST_NOTES, MOST_NOTES + 1, MOST_NOTES + 2):
         areas = [(16 * at, 8) for at in range(count)]
         yield job_over([LAST])._replace(fetch=areas, store=[])
     for count in (3, 4, 5, 7):

@@ -28,7 +28,7 @@ TOO_LONG, TOO_LONG_SAID = bytes(0x1000001), Ran(2, "", "chanv: image too long\n"
 USUAL_DEVICE = "note: no --device, so 2314\n"
 HEAD = "chanv deck 1\ndevice 2314\nmask 00\nstart {}\nextent {}\n"
 OUTSIDE = "note: {} lies outside the image, so it is zero here\n"
-HELP = r"(?:.*\n)?(?:help: .*\n)+"
+HELP = r"(?:help: .*\n)+"
 IS_DECK = "note: this is a deck; chanv verify judges it\n"
 PAST = "chanv: image past storage\n"
 

@@ -5,10 +5,10 @@ show the calls of the header, and nothing else; the example of docs/EMBEDDING.md
 pkg-config says, with either library; each link of the installed pages leads to an installed file,
 and so does each page that the manual and the header name; each file of a stage has its mode, and
 nothing is written beside the stage; and `make uninstall` takes away all that was put there. No
-prefix is outside the test's own folder. What `make rustc` built is installed by the target
-`install-rustc`, and says that it isn't proved. The commands and the Python of docs/EMBEDDING.md do
-what the page shows. What asks pkg-config is left out, by its name, where there is none. `make try`
-hands its deck to `rt`, in whose place a script stands.
+prefix is outside the test's own folder, and no call of make changes the checkout. What `make rustc`
+built is installed by the target `install-rustc`, and says that it isn't proved. The commands and
+the Python of docs/EMBEDDING.md do what the page shows. What asks pkg-config is left out, by its
+name, where there is none.
 """
 
 import os
@@ -19,16 +19,25 @@ import sys
 import tempfile
 from pathlib import Path
 
-from building import FLAGS, ROOT, compile_c, is_proved, said_version, short, version, version_of
-from examples import EXAMPLES, SEARCH_LOOP
+from building import FLAGS, ROOT, compile_c, is_proved, said_version, version, version_of
+from examples import EXAMPLES
 from links_and_sizes import NAMED, broken_links
 from pages import EMBEDDING, check_page, shown_by
-from running import Ran, run, text_of, write_script
+from running import Ran, run, text_of
 
-PROGRAM = "crates/chanv/out/chanv"
 # the targets of make that `make rustc` has others for
 TARGETS = {}
 OF_RUSTC = {"install": "install-rustc"}
+# of each target, what it copies first, what builds that, and what chanv.pc adds to its description
+INSTALLS = {
+    "install": ("crates/chanv/out/chanv", "make and make lib", ""),
+    "install-rustc": ("out/not_proved/chanv", "make rustc", ", not proved"),
+}
+# what a target takes from elsewhere if it is told so
+GIVEN = {"install": ["OUT={}", "PROGRAM={}/chanv"], "install-rustc": ["NOT_PROVED={}"]}
+# what tests and builds write into the checkout
+PASSED_OVER = {"out", ".git", "__pycache__"}
+WRITTEN = {"dump.deck", "dump.svg", "read.o", "read.bin", "a.deck"}
 # what the page says as the prefix
 PREFIX = "/usr/local"
 
@@ -54,21 +63,28 @@ STAGED_LIBRARIES = {
     "pkgconfig/chanv.pc": READ,
 }
 
-# the package's version, and whether the library says that it isn't proved
-PROVED = "import chanv as c; print(c.__version__, c._c.library.chanv_version() < 0)"
-
-# in place of rt: says where it is and what it is told, and copies the deck
-RT = """#!/bin/sh
-echo "${PWD##*/} $*"
-cat
-exit "$STATUS"
-"""
+# the package's version, and the library's, which says whether nothing of it is proved
+VERSIONS = "import chanv as c; print(c.__version__, c.library_version())"
 
 
-def make(target, to, *words, **how):
+def checkout():
+    """The files of the checkout, but for what is built: length, mode and time of each."""
+    found = {}
+    for folder, names, files in os.walk(ROOT):
+        names[:] = [name for name in names if name not in PASSED_OVER]
+        for name in {*files} - WRITTEN:
+            about = os.lstat(os.path.join(folder, name))
+            found[os.path.join(folder, name)] = about.st_size, about.st_mode, about.st_mtime_ns
+    return found
+
+
+def make(checks, target, to, *words, **how):
     """Calls make for a folder of its own; the libraries' linker is told of it as users tell it."""
-    target = TARGETS.get(target, target)
-    return run("make", "-s", "-C", ROOT, target, f"PREFIX={to}", *words, **how)
+    target, before = TARGETS.get(target, target), checkout()
+    ran = run("make", "-s", "-C", ROOT, target, f"PREFIX={to}", *words, **how)
+    changed = sorted(path for path, _ in before.items() ^ checkout().items())
+    checks.expect(f"what make {target} changes in the checkout", [], changed)
+    return ran
 
 
 def exported(library, *flags):
@@ -114,10 +130,49 @@ def check_pages(checks, to):
             checks.expect_that(f"{reader} names docs/{name}, installed", is_there, name)
 
 
-def check_embedding(checks, chanv, folder):
+def check_versions(checks, to, program, library):
+    """All that is installed is of this version, and says whether it is proved."""
+    said = run(to / "bin/chanv", "--version").output
+    checks.expect("the program's version", said_version(program), said)
+    checks.expect("the header's version", version(), version_of(to / "include/chanv.h"))
+    description = re.search("(?m)^Description: .*", text_of(ROOT / "docs/chanv.pc.in"))[0]
+    description += INSTALLS[TARGETS.get("install", "install")][2]
+    page = text_of(to / "lib/pkgconfig/chanv.pc").splitlines()
+    checks.expect_that(f"chanv.pc has {description!r}", description in page, page)
+    python = ["env", f"PYTHONPATH={to / 'share/chanv/python'}", sys.executable, "-B", "-c"]
+    ran = run(*python, "import chanv; print(chanv.verify(chanv.Job(bytes(8), 0, [(0, 1)])))")
+    checks.expect("the Python module, installed", Ran(0, "no 000000 invalid-code\n"), ran)
+    also = "" if is_proved(library) else "+not.proved"
+    wanted = Ran(0, f"{version()} {version()}{also}\n")
+    checks.expect("what Python says of it", wanted, run(*python, VERSIONS))
+
+
+def check_targets(checks, folder, program, library):
+    """Each target names what isn't built, and chanv.pc says what was installed; so also here the
+    target of what isn't under test."""
+    built = folder / "built"
+    built.mkdir()
+    for name in ("chanv.h", "libchanv.a", f"libchanv.so.{version()}"):
+        shutil.copy(library / name, built)
+    shutil.copy(program, built / "chanv")
+    description = re.search("(?m)^Description: .*", text_of(ROOT / "docs/chanv.pc.in"))[0]
+    for target, (first, builds, besides) in INSTALLS.items():
+        to = f"PREFIX={folder / target}"
+        ran = run("make", "-s", "-f", ROOT / "Makefile", "-C", folder, target, to)
+        wanted = f"make install: no {first}; run {builds} first\n"
+        checks.expect_that(f"{target} says what isn't built", wanted in ran.error, ran)
+        ran = run("make", "-s", "-C", ROOT, target, to, *(it.format(built) for it in GIVEN[target]))
+        checks.expect(f"make {target} of other files", Ran(0), ran)
+        page = text_of(folder / target / "lib/pkgconfig/chanv.pc").splitlines()
+        about = f"{target}, its chanv.pc"
+        checks.expect_that(about, f"{description}{besides}" in page, page)
+
+
+def check_embedding(checks, chanv, library, folder):
     """What the reader of EMBEDDING types, with another prefix, which has no blank."""
     to = folder / "opt"
-    checks.expect("make install", 0, make("install", to).status)
+    checks.expect("make install", 0, make(checks, "install", to).status)
+    check_versions(checks, to, chanv, library)
     paths = {"PKG_CONFIG_PATH": str(to / "lib/pkgconfig"), "LD_LIBRARY_PATH": str(to / "lib")}
     environment = {**os.environ, **paths}
     if shutil.which("pkg-config"):
@@ -133,12 +188,12 @@ def check_embedding(checks, chanv, folder):
 def check_library_folder(checks, folder):
     """The libraries and chanv.pc in a folder that isn't lib/ under the prefix."""
     to, words = folder / "apart", f"LIBDIR={folder / 'apart/lib/x86_64'}"
-    checks.expect("make install with a LIBDIR", 0, make("install", to, words).status)
+    checks.expect("make install with a LIBDIR", 0, make(checks, "install", to, words).status)
     there = to / "lib/x86_64"
     checks.expect_that("its archive", (there / "libchanv.a").is_file(), "not there")
     page = text_of(there / "pkgconfig/chanv.pc")
     checks.expect_that("its folder in chanv.pc", "libdir=${prefix}/lib/x86_64\n" in page, page)
-    checks.expect("make uninstall with it", 0, make("uninstall", to, words).status)
+    checks.expect("make uninstall with it", 0, make(checks, "uninstall", to, words).status)
     left = sorted(it.name for it in to.rglob("*") if not it.is_dir())
     checks.expect("which leaves nothing", [], left)
 
@@ -158,7 +213,7 @@ def check_stage(checks, folder):
     for libraries, more in [("lib", []), ("lib/x86_64", [f"LIBDIR={prefix / 'lib/x86_64'}"])]:
         stage = folder / "stage" / libraries.replace("/", " ")
         words = [f"DESTDIR={stage}", *more]
-        ran = make("install", prefix, *words, umask=0o077)
+        ran = make(checks, "install", prefix, *words, umask=0o077)
         checks.expect(f"make install into a stage, {libraries}", 0, ran.status)
         checks.expect("what comes to the prefix itself", False, prefix.exists())
         to = stage / prefix.relative_to("/")
@@ -175,7 +230,8 @@ def check_stage(checks, folder):
         begun = [f"prefix={prefix}", "includedir=${prefix}/include"]
         begun.append(f"libdir=${{prefix}}/{libraries}")
         checks.expect("the folders of its chanv.pc", begun, page.splitlines()[:3])
-        checks.expect("make uninstall of a stage", 0, make("uninstall", prefix, *words).status)
+        ran = make(checks, "uninstall", prefix, *words)
+        checks.expect("make uninstall of a stage", 0, ran.status)
         left = [it for it in stage.rglob("*") if not it.is_dir()]
         checks.expect("what it leaves", [], left)
 
@@ -186,20 +242,8 @@ def check_errors(checks, folder):
         to = folder / f"no {name}"
         (to / DOCS).mkdir(parents=True)
         (to / DOCS / name).write_text("a file in place of the folder\n")
-        ran = make("install", to)
+        ran = make(checks, "install", to)
         checks.expect_that(f"make install without {name}/README.md", ran.status != 0, ran)
-
-
-def check_try(checks, folder):
-    """`make try` judges the deck with that path, and a no is no error."""
-    write_script(folder / "rt", RT)
-    words = ["make", "-s", "-C", ROOT, "try", f"DECK={SEARCH_LOOP.relative_to(ROOT)}"]
-    wanted = f"chanv try -- why\n{text_of(SEARCH_LOOP)}"
-    for status in (0, 1, 2):
-        paths = {"PATH": f"{folder}:{os.environ['PATH']}", "STATUS": str(status)}
-        ran = run(*words, env={**os.environ, **paths})
-        seen = ran.status != 0, ran.output
-        checks.expect(f"make try, of which rt says {status}", (status == 2, wanted), seen)
 
 
 def check(checks, built):
@@ -207,20 +251,13 @@ def check(checks, built):
     TARGETS.update({} if is_proved(program) else OF_RUSTC)
     shown = dict(shown_by(EMBEDDING))["./ask"]
     with tempfile.TemporaryDirectory() as room:
-        check_embedding(checks, program, Path(room))
+        check_embedding(checks, program, library, Path(room))
+        check_targets(checks, Path(room), program, library)
     with tempfile.TemporaryDirectory(prefix="two words ") as room:
         folder = Path(room)
-        nowhere = f"PREFIX={folder / 'nowhere'}"
-        target = TARGETS.get("install", "install")
-        ran = run("make", "-s", "-f", ROOT / "Makefile", "-C", room, target, nowhere)
-        first = PROGRAM if is_proved(program) else short(program)
-        checks.expect_that("says what isn't built", f"no {first};" in ran.error, ran)
         to = folder / "opt"
-        checks.expect("make install", 0, make("install", to).status)
-        said = run(to / "bin/chanv", "--version").output
-        there = version_of(to / "include/chanv.h")
-        checks.expect("the program's version", said_version(program), said)
-        checks.expect("the header's version", version(), there)
+        checks.expect("make install", 0, make(checks, "install", to).status)
+        check_versions(checks, to, program, library)
         _, told = pkg_config(to, "--modversion") if shutil.which("pkg-config") else (0, None)
         if told is None:
             checks.skip("the example, built with pkg-config", "no pkg-config")
@@ -228,21 +265,14 @@ def check(checks, built):
             checks.expect("the version of pkg-config", [version()], told)
             check_example(checks, to, shown)
         check_names(checks, to)
-        python = ["env", f"PYTHONPATH={to / 'share/chanv/python'}", sys.executable, "-B", "-c"]
-        ran = run(*python, "import chanv; print(chanv.verify(chanv.Job(bytes(8), 0, [(0, 1)])))")
-        checks.expect("the Python module, installed", Ran(0, "no 000000 invalid-code\n"), ran)
-        also = ("+not.proved", True) if not is_proved(library) else ("", False)
-        wanted = Ran(0, f"{version()}{also[0]} {also[1]}\n")
-        checks.expect("what Python says of it", wanted, run(*python, PROVED))
         check_pages(checks, to)
         deck = to / "share/doc/chanv/examples/search-loop.deck"
         ran = run(to / "bin/chanv", "verify", given=deck)
         checks.expect("an example, installed", Ran(0, "yes\n"), ran)
         check_stage(checks, folder)
         check_errors(checks, folder)
-        check_try(checks, folder)
         check_library_folder(checks, folder)
         made = ["shared", "static"]
-        checks.expect("make uninstall", 0, make("uninstall", to).status)
+        checks.expect("make uninstall", 0, make(checks, "uninstall", to).status)
         left = sorted(it.name for it in to.rglob("*") if not it.is_dir() and it.name not in made)
         checks.expect("make uninstall leaves nothing", [], left)

@@ -13,14 +13,14 @@ import tempfile
 from pathlib import Path
 from textwrap import dedent
 
-from building import HERE, ROOT, SANITIZED, c_compiler, compile_c, compile_with, is_proved, short
-from building import version_of
+from building import FLAGS, HERE, ROOT, SANITIZED, c_compiler, compile_c, compile_with, is_proved
+from building import short, version_of
 from examples import EXAMPLES
 from refusing import Case, Growths
 from running import Ran, run, text_of
 
 # the programs whose calls get too little room, foreign rows or threads run under the sanitizers
-LINED = ("edges", "needs", "memory", "threads", "far")
+LINED = ("edges", "needs", "most", "memory", "threads", "far")
 TESTS = ("one_call", "bytes", *LINED)
 SOURCES = [EXAMPLES / "c/ask.c", *[HERE / f"c/{name}.c" for name in TESTS]]
 MAY_ASK_FOR = {"memcpy", "memmove", "memset", "malloc", "realloc", "free"}
@@ -79,6 +79,14 @@ def check_edges(checks, folder):
     check_words(checks, [line.split(": ", 1) for line in seen if line.startswith("reason ")])
 
 
+def check_c_file(checks, library, folder):
+    """The words of the C file by itself, under sanitizers."""
+    made, with_file = folder / "words", [f"-I{library}", ROOT / "c/chanv.c"]
+    ran = run(compile_c(HERE / "c/words.c", made, *FLAGS, *SANITIZED, *with_file))
+    wanted = re.findall(r"(?m)^(?:reason|number) .*\n", text_of(HERE / "c/edges.out"))
+    checks.expect("words of the C file", Ran(0, "".join(wanted)), ran)
+
+
 def check_words(checks, said):
     """The header's words are those of the reasons, by number."""
     code = text_of(ROOT / "crates/chan_walk/src/reason.rt")
@@ -97,7 +105,7 @@ def structs_of(header):
         yield name, re.findall(r"(\w+)(?:\[\d+\])?;", fields)
 
 
-def check_layout(checks, library, folder):
+def check_layout(checks, library, folder, is_proved):
     """The recorded layout and soname are those of the header and of the shared library."""
     enums = re.findall(r"(?m)^enum (\w+) \{", text_of(library / "chanv.h"))
     lines = [f"ENUM({name});" for name in enums]
@@ -108,7 +116,8 @@ def check_layout(checks, library, folder):
     ran = run(compile_c(HERE / "c/layout.c", folder / "layout", *flags))
     versions, _, layout = ran.output.partition("\n")
     version = version_of(library / "chanv.h")
-    checks.expect("the header's version", " ".join([version] * 4), versions)
+    wanted = " ".join([version] * 4) + " not proved" * (not is_proved)
+    checks.expect("the header's version", wanted, versions)
     recorded = text_of(LAYOUT).split("\n")
     recorded = [line for line in recorded if line and line[0] != "#"]
     shared = run("readelf", "-d", next(library.glob("libchanv.so.*"))).output
@@ -172,6 +181,13 @@ def mistakes_of(call):
             yield f"{call[:at]}NULL{call[at + len(pointer) :]} == CHANV_YES", "nonnull"
 
 
+def null_rows():
+    """The calls that make rows of a table, with NULL for each of their pointers in turn."""
+    for call in ("chanv_row_storing", "chanv_row_keeping"):
+        yield f"({call}(NULL, &it), 0)"
+        yield f"({call}(&area, NULL), 0)"
+
+
 def check_mistakes(checks, library, folder):
     """A compiler finds an answer that is ignored or compared with something else, and NULL where it
     mustn't be; and it finds no fault with NULL where it may be."""
@@ -181,6 +197,10 @@ def check_mistakes(checks, library, folder):
     tells_apart = "[-Wenum-compare]" in run(*look, source).error
     if not tells_apart:
         checks.skip("answers compared with reasons", "the compiler doesn't tell constants apart")
+    for mistake in null_rows():
+        source.write_text(ASKING.format(mistake))
+        ran = run(*look, source)
+        checks.expect_that(f"{mistake} is found", "[-Wnonnull]" in ran.error, ran)
     for call in RIGHT:
         source.write_text(ASKING.format(f"{call} == CHANV_NO"))
         checks.expect(f"no fault with {call}", Ran(0), run(*look, source))
@@ -240,9 +260,10 @@ def check(checks, built):
         check_example(checks, folder)
         check_loop(checks, library, folder)
         check_edges(checks, folder)
+        check_c_file(checks, library, folder)
         for name in (*LINED[1:], "bytes"):
             check_lines(checks, folder, name)
-        check_layout(checks, library, folder)
+        check_layout(checks, library, folder, is_proved(library))
         check_warnings(checks, library)
         check_mistakes(checks, library, folder)
         check_archive(checks, library)

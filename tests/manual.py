@@ -1,4 +1,4 @@
-"""Help, version, manual page, README and completions for bash: they agree with each other."""
+"""Help, version, manual page, OUTPUT and completions for bash: they agree with each other."""
 
 import re
 import shutil
@@ -7,10 +7,19 @@ from building import ROOT, said_version, version
 from examples import EXAMPLES
 from running import Ran, run, run_in_bash, text_of
 
-PAGE, README = ROOT / "docs/chanv.1", ROOT / "README.md"
+PAGE, OUTPUT = ROOT / "docs/chanv.1", ROOT / "docs/OUTPUT.md"
 COMPLETIONS = ROOT / "docs/chanv.bash"
 VERSION = f"chanv {version()}\n"
 COMMANDS = ["verify", "list", "why", "needs", "graph", "find", "deck", "explain", "show"]
+
+# what help and the manual page both say of an option
+SAID = [
+    ("list", "wide", "for people and not for scripts"),
+    ("list", "range", "reached or not"),
+    ("why", "all", "cause"),
+    ("why", "of", "the offence at"),
+    ("needs", "deck", "grants exactly this"),
+]
 
 # completes the last of the words that stand behind the file's name
 COMPLETE = """
@@ -51,6 +60,18 @@ def check_page(checks, program):
     checks.expect("the commands that the manual page names", commands, named)
 
 
+def check_options(checks, program):
+    """The manual page says of an option what help says of it."""
+    section = text_of(PAGE).partition("\n.SH COMMANDS\n")[2].partition("\n.SH ")[0]
+    for command, option, said in SAID:
+        its = section.partition(f"\n.SS {command} ")[2].partition("\n.SS ")[0]
+        of_page = its.partition(f"\nWith\n.B \\-\\-{option}\n")[2].partition("\nWith\n")[0]
+        of_help = re.search(rf"(?m)^ +--{option}\b.*$", run(program, command, "--help").output)
+        for where, text in (("help", of_help and of_help[0]), ("the manual page", of_page)):
+            is_said = said in " ".join((text or "").split())
+            checks.expect_that(f"{where} says of {command} --{option}: {said}", is_said, text)
+
+
 def statuses_of_help(program, command):
     """The text for each exit status."""
     said = run(program, command, "--help").output.partition("exit status")[2]
@@ -65,9 +86,10 @@ def statuses_of_page():
 
 
 def check_statuses(checks, program):
-    """README's table and the manual page have each status, with the words of help."""
-    rows = dict(re.findall(r"(?m)^\| (\d) \| (.*) \|$", text_of(README)))
-    pages = {"README": rows, "the manual page": statuses_of_page()}
+    """OUTPUT's table and the manual page have each status, with the words of help."""
+    section = text_of(OUTPUT).partition("\n## The exit status\n")[2].partition("\n## ")[0]
+    rows = dict(re.findall(r"(?m)^\| (\d) \| (.*) \|$", section))
+    pages = {"OUTPUT": rows, "the manual page": statuses_of_page()}
     for command in ("verify", "deck"):
         said = statuses_of_help(program, command)
         for name, page in pages.items():
@@ -134,7 +156,8 @@ def check_completions(checks, program):
         ["needs", "--deck", page[:-2]],
     ):
         checks.expect_that(f"a file after {words[:-1]}", page in completed(*words), words)
-    for words in (["deck", "--start"], ["why", "--of"], ["show"], ["explain"], ["help"]):
+    values = (["deck", "--start"], ["why", "--of"], ["list", "--range"])
+    for words in (*values, ["show"], ["explain"], ["help"]):
         checks.expect(f"no file after {words[-1]}", [""], completed(*words, page[:-2]))
     ran = run_in_bash('source "$1" && complete -p chanv', COMPLETIONS)
     wanted = Ran(0, "complete -o filenames -F _chanv chanv\n")
@@ -145,6 +168,7 @@ def check(checks, built):
     program = built.chanv()
     check_help(checks, program)
     check_page(checks, program)
+    check_options(checks, program)
     check_statuses(checks, program)
     check_groff(checks)
     check_example(checks, program)

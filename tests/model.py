@@ -43,8 +43,8 @@ from judging import (  # noqa: E402
     own_fault,
     reachable,
 )
-from making import changed, random_job  # noqa: E402
-from stepping import random_run, runs  # noqa: E402
+from making import changed, many_arguments, random_job  # noqa: E402
+from stepping import random_run, runs, steps  # noqa: E402
 from writing import (  # noqa: E402
     deck_of,
     hang_note,
@@ -58,6 +58,8 @@ from writing import (  # noqa: E402
 )
 
 SEED, JOBS = 360, 2500
+# with six bytes of an argument each: more than a leaf of the map of rustc/kit holds
+MANY_SEEKS = 86
 MOST_PLACES = 65536
 # an example that is changed and stepped has to be small
 MOST_STORAGE = 0x2000
@@ -280,6 +282,16 @@ def check_runs(checks, name, answer, random):
         checks.expect(f"the harms of a run of {name}", [], harms)
 
 
+def check_amounts(checks):
+    """A step moves no byte, some or all. No verdict shows that: what some bytes do, all do too."""
+    for code, what, wanted in [("06", "store", {0, 1, 6}), ("07", "gather", {*range(7)})]:
+        storage = bytes.fromhex(f"{code}00000800000006").ljust(16, b"\0")
+        each = [it for events, _ in steps(storage, Place(0, FRESH, False), ()) for it in events]
+        last = [values[-1] for name, *values in each if name == what]
+        moved = {it if what == "store" else len(it) for it in last}
+        checks.expect_that(f"how many bytes {code} may move", wanted <= moved, moved)
+
+
 def check_examples(checks):
     for folder in (*FOLDERS, TEXTS):
         for name, verdict in verdicts_of(folder).items():
@@ -313,9 +325,11 @@ def jobs_of(random, count):
 def compare(checks, built, seed, count):
     program, random = built.chanv(), Random(seed)
     check_examples(checks)
+    check_amounts(checks)
     with tempfile.TemporaryDirectory() as room:
         answers = {}
-        for number, job in enumerate(jobs_of(random, count)):
+        jobs = [*jobs_of(random, count), many_arguments(MANY_SEEKS)]
+        for number, job in enumerate(jobs):
             path = Path(room) / f"seed-{seed}-job-{number}"
             path.write_text("".join(f"{line}\n" for line in deck_of(job)))
             answers[path] = Answer(job)

@@ -15,6 +15,7 @@ for comments:
 
     # function: extents::judge           for one that changes the body of this function
     # goals: returns-then-first-last     the goals that the search leaves open there, if any
+    # clause: kept                       the clause of the function that refuses it
     # refused-by: laws::yes_is_safe      for any other: the law or function that has to refuse it
 
 Each crate is first proved as it is, from what out/ has kept, unless --built says that this was just
@@ -23,12 +24,13 @@ they call. What out/ has kept serves every reading, except for these functions a
 them. So functions that come to many others by calls are read together.
 
 Each mutant has to be refused for a goal of its own: one that the search left open, or one whose
-written answer no longer shows it. If it names goals, it has to be each of these; the copy leaves
-them to the search by name, because `rt check` would else look for what to offer, which takes as
-long again. A call of something that isn't proved, a proof that lost a name, and a text that isn't
-Rattle don't count. A mutant that such a thing hides is tried again without those that were refused
-with it, and in the end alone. What a caller owes rests on the contracts of what it calls, never on
-their bodies, so a function is refused here for its own body alone.
+written answer no longer shows it. If it names a clause, a goal has to be about that clause. If it
+names goals, it has to be each of these; the copy leaves them to the search by name, because `rt
+check` would else look for what to offer, which takes as long again. A call of something that isn't
+proved, a proof that lost a name, and a text that isn't Rattle don't count. A mutant that such a
+thing hides is tried again without those that were refused with it, and in the end alone. What a
+caller owes rests on the contracts of what it calls, never on their bodies, so a function is refused
+here for its own body alone.
 
 The others are wrong definitions, with the code that computes them, and constants, which several
 functions read. For each of these a copy is checked as far as the law or the function that has to
@@ -77,7 +79,7 @@ REFUSED = re.compile(r"(?m)^(?:\./)?([^\s:]+):\d+:\d+: error: (.*)")
 OPEN = re.compile(r"(?m)^note: (\S+: it is not proved that .*)")
 
 # is_body: whether it changes the body of the function; changes: file, old and new text of each
-Mutant = collections.namedtuple("Mutant", "path function is_body goals changes")
+Mutant = collections.namedtuple("Mutant", "path function is_body goals clause changes")
 
 
 def paths_of(crate):
@@ -87,7 +89,7 @@ def paths_of(crate):
 
 
 def read_mutant(path):
-    function, is_body, goals, file, old, changes = "", False, [], "", "", []
+    function, is_body, goals, clause, file, old, changes = "", False, [], "", "", "", []
     for line in path.read_text().splitlines():
         word, _, text = line.removeprefix("# ").partition(":")
         text = text.removeprefix(" ")
@@ -95,13 +97,20 @@ def read_mutant(path):
             function, is_body = text, word == "function"
         elif word == "goals":
             goals = text.split(", ")
+        elif word == "clause":
+            clause = text
         elif word == "file":
             file = text
         elif word == "old":
             old = text
         elif word == "new":
             changes.append((file, old, text))
-    return Mutant(path, function, is_body, goals, changes)
+    return Mutant(path, function, is_body, goals, clause, changes)
+
+
+def clauses_of(goals):
+    """The clauses of a function that goals are about: the last part of a goal's name, if it has it."""
+    return {it[1] for it in (re.search(r"-clause-([\w']+)", goal) for goal in goals) if it}
 
 
 def text_of(crate, file, texts):
@@ -226,7 +235,8 @@ def own_goals(crate, mutant, line, said):
     refused = [goal for goal, why in re.findall(error, said) if not LOST.search(why)]
     answers = [it if it in mutant.goals else f"{it} (answered)" for it in refused]
     found = [*dict.fromkeys((re.findall("`([^`]*)`", left[1]) if left else []) + answers)]
-    return found if set(mutant.goals) <= set(found) else []
+    is_refused = set(mutant.goals) <= set(found)
+    return found if is_refused and {mutant.clause} <= {"", *clauses_of(found)} else []
 
 
 def callers_first(crate, mutants):

@@ -7,7 +7,8 @@
 The tables are made from the sources of the crates and from the mutants in must-fail/ and
 tests/mutants/. A mutant fits if each of its old texts occurs once in its file, and if it changes
 some function, constant or definition. A function's mutant may also be one of a function that it
-calls. The table of laws in docs/MACHINE.md names only functions that exist, among them all of
+calls. What C calls is called by nothing else, so each clause of its contract has a mutant that
+names it, by a goal or by itself. The table of laws in docs/MACHINE.md names only functions that exist, among them all of
 laws.rt. No file of mutants is left out: each belongs to a crate and names what has to refuse it.
 
 No two files of specs/ define the same name, and no two public types have one name. No two modules
@@ -23,7 +24,7 @@ sys.dont_write_bytecode = True
 
 from building import ROOT, crates, short  # noqa: E402
 from closure import Sources  # noqa: E402
-from mutants import MUTANTS, paths_of, read_mutant  # noqa: E402
+from mutants import MUTANTS, clauses_of, paths_of, read_mutant  # noqa: E402
 from running import text_of  # noqa: E402
 from sources import CRATES, items, uses  # noqa: E402
 
@@ -153,6 +154,18 @@ def check_functions(checks, crate):
         checks.expect_that(name, mutants or item.path() == HAS_NONE, mutants)
 
 
+def check_clauses(checks, crate):
+    """Each clause of a function that C calls is one that some mutant of the function is about."""
+    for item in crate.items:
+        if not item.is_for_c():
+            continue
+        own = [mutant for mutant in crate.mutants if mutant.function == item.path()]
+        named = {mutant.clause for mutant in own}
+        named |= {clause for mutant in own for clause in clauses_of(mutant.goals)}
+        clauses = {clause for clause in item.clauses if clause}
+        checks.expect(f"{item.path()}, clauses without a mutant", set(), clauses - named)
+
+
 def check_laws(checks, some):
     section = text_of(LAWS).partition("\n## The laws\n")[2].partition("\n## ")[0]
     cells = re.findall(r"(?m)^\| (`[^|]*) \|", section)
@@ -224,6 +237,7 @@ def check(checks, _built):
     for crate in some:
         check_mutants(checks, crate)
         check_functions(checks, crate)
+        check_clauses(checks, crate)
     check_laws(checks, some)
     checks.expect_that("make table", tables(some), "nothing to print")
 

@@ -398,20 +398,20 @@ def check_places(checks, library, room):
     checkout.mkdir(parents=True)
     shutil.copy(FOLDER / "pyproject.toml", checkout)
     checks.expect("in a checkout", ASKED, ask_from(checkout, library, room / f"d/out/{name}.0"))
-    for about, package, at in [
-        ("the folder above", "e/deep", f"e/lib/{name}"),
-        ("a folder far above", "f/deep/er/still", f"f/lib/{name}"),
-        ("the package itself", "g", f"g/chanv/{name}"),
-        ("the out of what isn't a checkout", "h/python", f"h/out/{name}"),
-        ("the lib of a target folder", "i/lib/here", f"i/lib/{name}"),
+    # what isn't a library is named where the package looks, whatever library the system has
+    text = room / "text"
+    text.write_text("no library\n")
+    for about, package, at, looks in [
+        ("lib of its prefix", "j/share/chanv/python", f"j/lib/{name}", True),
+        ("the folder above", "e/deep", f"e/lib/{name}", False),
+        ("a folder far above", "f/deep/er/still", f"f/lib/{name}", False),
+        ("the package itself", "g", f"g/chanv/{name}", False),
+        ("the out of what isn't a checkout", "h/python", f"h/out/{name}", False),
+        ("the lib of a target folder", "i/lib/here", f"i/lib/{name}", False),
     ]:
-        ran = ask_from(room / package, library, room / at)
-        is_so = str(room) not in ran.error.partition("WrongLibrary")[2] and ran != ASKED
-        system = any(Path(it, name).exists() for it in ("/usr/lib", "/usr/local/lib"))
-        if system:
-            checks.skip(f"not in {about}", f"the system has {name}")
-        else:
-            checks.expect_that(f"it doesn't look in {about}", is_so, ran)
+        ran = ask_from(room / package, text, room / at)
+        named = str(room / at) in ran.error.partition("WrongLibrary")[2]
+        checks.expect_that(f"whether it looks in {about}", named == looks, ran)
 
 
 def check_pip(checks, library, room):
@@ -424,7 +424,7 @@ def check_pip(checks, library, room):
     shutil.copytree(FOLDER, checkout / "python", ignore=lambda *_: ["__pycache__"])
     shutil.copy(ROOT / ".gitignore", checkout)
     git = ["git", "-C", checkout, "-c", "user.name=x", "-c", "user.email=x"]
-    has_git = all(
+    has_git = shutil.which("git") and all(
         run(*git, *words).status == 0
         for words in (["init", "-q"], ["add", "."], ["commit", "-qm", "the package"])
     )

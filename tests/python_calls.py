@@ -3,24 +3,33 @@
 A second copy of the package asks the library under test through the watcher, which sees the structs
 of each call, and changes storage between two calls of one question. It compares where storage lies
 with the caller's address, each list with the caller's rows, and each number with the caller's. The
-widths of numbers are the header's, and what has to come of a change follows from its rules.
+widths of numbers are the header's, and what has to come of a change follows from its rules. Without
+memory no call has an answer. A library that is named goes before the one beside the package.
 """
 
 import mmap
+import os
 import re
+import shutil
 import sys
+import tempfile
 from ctypes import addressof, byref, c_char, c_char_p, c_void_p, cast, sizeof, string_at
 from importlib import util
+from pathlib import Path
 
 import python_edges
 from library import LAYOUT
-from package import FOLDER, package
+from package import FOLDER, package, shared_library
+from python import soname
 from python_edges import EACH, EVERYWHERE, FIELDS, HEADER, LOOP, error_of, job_of, storage_of
-from running import text_of
+from running import Ran, run, text_of
 
 # the calls about a job that copy its storage; `find` is added where it is asked, and so are those
 # that never copy
 COPYING, AS_IT_IS = "verify places why text".split(), ["needs", "may_start"]
+
+# the code of a call that had no memory
+MEMORY = 3
 
 # a seek, a search, a write and a read, and in its place a CCW that does nothing
 LONG = {
@@ -100,7 +109,7 @@ def questions(chanv, storage, program, **copy):
 def check_storage(checks, chanv, watcher):
     """Each call gets a copy of what can change, of its whole length, and with `copy=False` none;
     what is right whatever writes storage never gets one."""
-    held, seen = storage_of(LOOP), []
+    held, seen = bytes(storage_of(LOOP)), []
     program = chanv.needs(job_of(chanv, LOOP, 0x800))
 
     def note(name, given):
@@ -114,9 +123,13 @@ def check_storage(checks, chanv, watcher):
             for name, ask in questions(chanv, storage, program, **how):
                 is_own = kind == "bytes" or how == {"copy": False} or name in AS_IT_IS
                 seen.clear()
-                ask()
-                about = f"{name} over {kind}, {how}"
-                checks.expect(f"storage of {about}", {(is_own, len(held))}, {*seen})
+                wanted = {(is_own, len(held))}
+                if kind == "bytes" and name == "may_start":
+                    checks.expect("may_start over bytes", TypeError, type(error_of(ask)))
+                    wanted = set()
+                else:
+                    ask()
+                checks.expect(f"storage of {name} over {kind}, {how}", wanted, {*seen})
 
 
 def check_release(checks, chanv, watcher):
@@ -199,6 +212,18 @@ def check_rows(checks, chanv, watcher):
         checks.expect(f"program {number}, what it keeps", wanted, handed_program(asked._obj))
         found = rows_of(chanv._c.Areas(at, count.value))
         checks.expect(f"the areas that program {number} may keep", areas, found)
+
+
+def check_no_areas(checks, chanv, watcher):
+    """A program that may keep nothing is asked about with no area, whatever it needs."""
+    program = chanv.needs(job_of(chanv, LOOP, 0x800))
+
+    def see(name, given):
+        raise KeyError(given[2].value)
+
+    watcher.before = see
+    found = error_of(lambda: chanv.keeps_only(program, []))
+    checks.expect("the areas of a program that may keep nothing", "KeyError(0)", repr(found))
 
 
 def check_no_programs(checks, chanv, watcher):
@@ -382,18 +407,59 @@ def check_no_job(checks, chanv, watcher):
     checks.expect("a no that goes away", chanv.Answer.CHANGED_MEANWHILE, code)
 
 
+class Without:
+    """The library, of which each call says that it has no memory."""
+
+    def __init__(self, real):
+        self.real = real
+
+    def __getattr__(self, name):
+        return getattr(self.real, name) if name.endswith("_word") else lambda *given: MEMORY
+
+
+def check_memory(checks, chanv, watcher):
+    """Want of memory is neither a yes nor a no, whatever was asked."""
+    job = job_of(chanv, LOOP, 0x800)
+    program = chanv.needs(job)
+    asked = [*questions(chanv, job.storage, program)]
+    asked += [("keeps_only", lambda: chanv.keeps_only(program, EVERYWHERE))]
+    asked += [("may_write", lambda: chanv.may_write((0, 1), [program]))]
+    chanv._c.library = Without(watcher.real)
+    for name, ask in asked:
+        found = error_of(ask)
+        checks.expect(f"{name} without memory", chanv.NoAnswer, type(found))
+        checks.expect(f"{name} without memory, code", MEMORY, getattr(found, "code", None))
+    chanv._c.library = watcher
+
+
+def check_named_library(checks, built):
+    """The library that CHANV_LIBRARY names goes before the one beside the package."""
+    with tempfile.TemporaryDirectory() as room:
+        package, own = Path(room) / "share/chanv/python", Path(room) / "lib"
+        shutil.copytree(FOLDER / "chanv", package / "chanv", ignore=lambda *_: ["__pycache__"])
+        own.mkdir()
+        named = {**os.environ, "PYTHONPATH": str(package)}
+        named["CHANV_LIBRARY"] = str(shared_library(built))
+        (own / soname()).write_text("no library")
+        ran = run(sys.executable, "-B", "-c", "import chanv; chanv.find(bytes(8))", env=named)
+    checks.expect("a library beside the package that is named", Ran(0), ran)
+
+
 def check(checks, built):
     chanv, watcher = watched(built)
+    check_named_library(checks, built)
     for part in (
         check_storage,
         check_release,
         check_rows,
+        check_no_areas,
         check_no_programs,
         check_laid_out,
         check_numbers,
         check_many,
         check_needs,
         check_no_job,
+        check_memory,
     ):
         watcher.rest()
         part(checks, chanv, watcher)

@@ -43,7 +43,7 @@ def storage_of(words, size=SIZE):
     held = bytearray(size)
     for address, word in words.items():
         held[address : address + 8] = bytes.fromhex(word)
-    return bytes(held)
+    return held
 
 
 def job_of(chanv, words, start, **more):
@@ -213,7 +213,7 @@ def check_devices(checks, chanv):
 # what is wrong with the job, the code's name, and the index of the extent
 FAULTS = [
     ({"limit": 2}, "TOO_MANY_PLACES", 0),
-    ({"storage": bytes(0x1000001)}, "STORAGE_TOO_LARGE", 0),
+    ({"storage": bytearray(0x1000001)}, "STORAGE_TOO_LARGE", 0),
     ({"device": 2305}, "NOT_A_DEVICE", 0),
     ({"mask": 0x20}, "NOT_A_MASK", 0),
     ({"extents": []}, "NO_EXTENT", 0),
@@ -437,7 +437,7 @@ def check_programs(checks, chanv):
     checks.expect("nobody", True, bool(chanv.may_write((0x800, 1), [None])))
     checks.expect("a start beside nobody", True, bool(chanv.may_start(job, program, [None])))
     wrong = [{0: program}, table, [0], [""], [False], [program, 0], [()], [[program]], ["x"]]
-    for in_flight in [*wrong, program]:
+    for in_flight in [*wrong, program, None]:
         about = f"{type(in_flight).__name__} in flight"
         found = error_of(lambda: chanv.may_write((0x800, 1), in_flight))
         checks.expect(f"a write, {about}", TypeError, type(found))

@@ -8,6 +8,7 @@ seed; if the supervisor leaves a duty out, some program does. The rest is by the
 
 import sys
 import threading
+from dataclasses import replace
 from types import ModuleType
 
 from building import HERE
@@ -21,10 +22,14 @@ from flying import STORAGE, UNITS, Flights  # noqa: E402
 
 SUPERVISOR = FOLDER / "chanv/supervisor.py"
 SEEDS, STARTS = range(1, 4), 1000
+# programs that are in flight at once
+MANY = 9
 
 # where the machine itself stores, what the caller guards, and the rest
 MACHINE, GUARDED = (0x240, 0x20), (0x5C0, 0x20)
 OWN = [(0, MACHINE[0]), (sum(MACHINE), STORAGE)]
+# all storage from where the machine of the model stores nothing, for one that nobody else uses
+ABOVE = {"own": [(0x80, 0xFFFF80)]}
 # CCWs that end a program, which is what the caller guards, mostly
 ENDS = bytes.fromhex("0300000020000001") * 4
 # devices that write to areas; their units come after those of the programs
@@ -213,24 +218,24 @@ def check_refused(checks, chanv):
         job = job_of(chanv, words, 0x80)
         others = {it: it != name for _, it, *_ in REFUSED}
         for given in ({}, others):
-            found = refusal_of(lambda: made(None, **given).take_in(job))
+            found = refusal_of(lambda: made(None, **ABOVE, **given).take_in(job))
             line = f"no: {refusal} {at:06X}"
             checks.expect(f"{refusal} with {given}", (refusal, at, line), found)
-        found = made(None, **{name: True}).take_in(job)
+        found = made(None, **ABOVE, **{name: True}).take_in(job)
         checks.expect(f"{refusal}, taken in", chanv.needs(job), found)
     for start, own, guarded, refusal in [
-        (0x80, {}, [], None),
-        (0x78, {}, [], ("keeps-outside", 0x78)),
-        (0xFF8, {}, [], None),
+        (0x80, ABOVE, [], None),
+        (0x78, ABOVE, [], ("keeps-outside", 0x78)),
+        (0xFF8, ABOVE, [], None),
         (0x80, {"own": [(0x84, 4), (0x80, 4)]}, [], None),
         (0x80, {"own": [(0x80, 7)]}, [], ("keeps-outside", 0x87)),
-        (0x80, {}, [(0, 0x80), (0x88, 8)], None),
-        (0x80, {}, [(0, 8), (0x87, 8)], ("keeps-outside", 0x87)),
+        (0x80, ABOVE, [(0, 0x80), (0x88, 8)], None),
+        (0x80, ABOVE, [(0, 8), (0x87, 8)], ("keeps-outside", 0x87)),
     ]:
         job, about = job_of(chanv, {start: READ}, start), f"{start:X}, own {own}, {guarded} guarded"
         found = refusal_of(lambda: made(None, **own, guarded=guarded).take_in(job))
         checks.expect(f"at {about}", refusal, found and found[:2])
-        found = refusal_of(lambda: made(None, guarded=iter(guarded)).take_in(job, **own))
+        found = refusal_of(lambda: made(None, own=[], guarded=iter(guarded)).take_in(job, **own))
         checks.expect(f"at {about}, for one user", refusal, found and found[:2])
     wide = made(None, own=[(0, SIZE)])
     loop = job_of(chanv, {0: "0600010040000010", 8: "0800000000000000"}, 0)
@@ -256,7 +261,7 @@ def check_tries(checks, chanv):
 
         asked.clear()
         module.needs = needs
-        found = error_of(lambda: module.Supervisor(None).take_in(job))
+        found = error_of(lambda: module.Supervisor(None, **ABOVE).take_in(job))
         wanted = wanted or chanv.Answer[code]
         checks.expect(f"{code}, {count} times", wanted, getattr(found, "code", found))
         checks.expect(f"{code}, {count} times, how often", [job] * calls, asked)
@@ -271,7 +276,7 @@ def check_starts(checks, chanv):
         seen.append((unit, job, supervisor._lock.locked()))
         return accepts.pop()
 
-    supervisor = chanv.supervisor.Supervisor(start_io, guarded=[(0xF00, 8)])
+    supervisor = chanv.supervisor.Supervisor(start_io, **ABOVE, guarded=[(0xF00, 8)])
     words = {0x80: READ, 0x90: "0600008420000004", 0xA0: "06000F0420000008"}
     jobs = {start: job_of(chanv, words, start) for start in words}
     programs = {start: supervisor.take_in(job) for start, job in jobs.items()}
@@ -330,9 +335,32 @@ def check_writes(checks, supervisor):
     checks.expect("a write on a program's unit", "no: unit-in-use", found)
 
 
+def check_many(checks, chanv):
+    """Of many programs in flight each is asked about: one alone is in the way."""
+    supervisor = chanv.supervisor.Supervisor(lambda unit, job: True, **ABOVE)
+    for unit in range(MANY):
+        at = 0x80 + 0x20 * unit
+        job = job_of(chanv, {at: f"06{at + 0x10:06X}20000008"}, at)
+        checks.expect("a start", True, bool(supervisor.start(unit, job, supervisor.take_in(job))))
+    for unit in range(MANY):
+        at, others = 0x80 + 0x20 * unit, 0x80 + 0x20 * MANY
+        # reads over its CCW; and keeps what it stores into
+        for start, word, refusal, byte in [
+            (others, f"06{at + 7:06X}20000002", "stores-over-kept", at + 7),
+            (at + 0x10, END, "keeps-stored-over", at + 0x10),
+        ]:
+            job = job_of(chanv, {start: word}, start)
+            line = f"no: {refusal} {byte:06X} by program {unit}"
+            found = str(supervisor.start(MANY, job, supervisor.take_in(job)))
+            checks.expect(f"{refusal} of {MANY}", line, found)
+        line = f"no: writes-over-kept {at:06X} by program {unit}"
+        checks.expect("a write", line, str(supervisor.write((at, 1), lambda: None)))
+        checks.expect("a lasting write", line, str(supervisor.begin_write(MANY, (at, 1))))
+
+
 def check_lasting(checks, chanv):
     """A program that keeps what a device writes waits until the device has left."""
-    supervisor = chanv.supervisor.Supervisor(lambda unit, job: True)
+    supervisor = chanv.supervisor.Supervisor(lambda unit, job: True, **ABOVE)
     job = job_of(chanv, {0x80: READ}, 0x80)
     program = supervisor.take_in(job)
     over = "no: keeps-stored-over 000087 by program 0"
@@ -344,9 +372,43 @@ def check_lasting(checks, chanv):
     checks.expect("a start after it", "yes", str(supervisor.start(1, job, program)))
 
 
+def check_given(checks, chanv):
+    """What the caller forgets or mistakes is an error, and nothing starts: the users' storage, a
+    program of another supervisor or of nobody, and a job over a copy of storage."""
+    made, seen = chanv.supervisor.Supervisor, []
+    checks.expect("no own", TypeError, type(error_of(lambda: made(None))))
+    supervisor = made(lambda unit, job: seen.append(unit) or True, **ABOVE)
+    job = job_of(chanv, {0x80: READ}, 0x80)
+    program = supervisor.take_in(job)
+    asks = {0x80: "0600010048000010", 0x88: END}
+    interrupting = job_of(chanv, asks, 0x80)
+    for about, asked, given in [
+        ("that `needs` made", job, chanv.needs(job)),
+        ("that interrupts", interrupting, chanv.needs(interrupting)),
+        ("of another supervisor", job, made(None, **ABOVE).take_in(job)),
+        ("that is a row", job, chanv.storing((0, 8))),
+    ]:
+        found = error_of(lambda: supervisor.start(1, asked, given))
+        checks.expect(f"a start of a program {about}", ValueError, type(found))
+    storage = job.storage
+    for about, over, wanted in [
+        ("bytes", bytes(storage), TypeError),
+        ("a view of bytes", memoryview(bytes(storage))[:], TypeError),
+        ("a read-only view of bytes", memoryview(bytes(storage)).toreadonly(), TypeError),
+        ("a read-only view of storage", memoryview(storage).toreadonly(), chanv.Permission),
+        ("a view of storage", memoryview(storage), chanv.Permission),
+    ]:
+        other = replace(job, storage=over)
+        found = error_of(lambda: chanv.may_start(other, program, []))
+        checks.expect(f"may_start over {about}", wanted, type(found))
+        found = error_of(lambda: supervisor.start(len(seen), other, program))
+        checks.expect(f"a start over {about}", wanted, type(found))
+    checks.expect("what started", [0, 1], seen)
+
+
 def check_lock(checks, chanv):
     """Each call waits while another thread has the lock."""
-    supervisor = chanv.supervisor.Supervisor(lambda unit, job: True)
+    supervisor = chanv.supervisor.Supervisor(lambda unit, job: True, **ABOVE)
     job = job_of(chanv, {0x80: READ}, 0x80)
     program = supervisor.take_in(job)
     for name, given in [
@@ -370,7 +432,9 @@ def check(checks, built):
     check_refused(checks, chanv)
     check_tries(checks, chanv)
     check_starts(checks, chanv)
+    check_many(checks, chanv)
     check_lasting(checks, chanv)
+    check_given(checks, chanv)
     check_lock(checks, chanv)
     check_careful(checks, chanv)
     check_careless(checks, chanv)

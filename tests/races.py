@@ -24,6 +24,7 @@ AT_ONCE = 4
 SECONDS = 5
 # a run that takes as long sees each code
 LONG = 20
+MOST_THREADS = 2
 
 # the codes of chanv.h that each call gives over a job without a fault, while there is memory; the
 # emulator asks again if storage changed, so this code needn't come
@@ -48,12 +49,20 @@ def check_call(checks, call, seconds, ran):
     checks.expect_that(f"the codes of {call} while storage changes", are_right, codes)
 
 
+def leave_out(checks, seconds):
+    """Names what so short a run isn't asked for."""
+    if seconds < LONG:
+        checks.leave_out("that each answer comes", f"RACE_SECONDS={LONG} waits for them")
+
+
 def check(checks, built):
     library, seconds = built.library(), int(os.environ.get("RACE_SECONDS") or SECONDS)
+    leave_out(checks, seconds)
     with tempfile.TemporaryDirectory() as room:
         program = compile_with(library, HERE / "c/race.c", Path(room) / "race")
-        most = seconds + MOST_SECONDS
+        # each thread of a race takes a processor
+        most = MOST_THREADS * seconds + MOST_SECONDS
         with ThreadPoolExecutor(max_workers=AT_ONCE) as beside:
-            runs = beside.map(lambda call: run(program, str(seconds), call, timeout=most), CODES)
+            runs = beside.map(lambda call: run(program, str(seconds), call, processor=most), CODES)
             for call, ran in zip(CODES, runs):
                 check_call(checks, call, seconds, ran)

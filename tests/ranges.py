@@ -93,6 +93,10 @@ def check_ends(checks, program):
     ]:
         wanted = Ran(1, listed(job, first, last, verdict))
         checks.expect(f"the range {words}", wanted, run(program, "list", "--range", words, MANY))
+    text = text_of(MANY).replace(f"storage {size:07X}", "storage 0003000")
+    wanted = Ran(1, listed(job_of(text), 0, 0x2FFF, verdict))
+    ran = run(program, "list", "--range", "0-2FFF", given=text.encode())
+    checks.expect("a range of 12 KiB", wanted, ran)
     one = listed(job, 0x800, 0x807, verdict)
     two = f"{MANY}:\n{one}" * 2
     ran = run(program, "list", "--range", "800+8", MANY, MANY)

@@ -34,6 +34,8 @@ because none of 000900-000904 is lent for fetching
 """
 SEEMS = f"note: the whole range is lent, but for storing\n{UNSEEN}\n"
 REFUSED = "chanv: deck line 1: header\n"
+DEVICE_FAULT = "error: invalid value '2301' for '--device <NUMBER>': 2311 or 2314"
+MORE = "\n\nFor more information, try '--help'.\n"
 HALF = "chanv: dump line 2: a byte has two digits\n"
 HINT = "found chanv deck 3\n                 ^\nexpected chanv deck 1, chanv deck 2\n"
 
@@ -202,12 +204,41 @@ def help_cases(chanv):
     )
 
 
+def usage_cases(chanv):
+    """A usage fault of each maker: the text is made, so want of memory may take its place."""
+    file = str(SEARCH_LOOP)
+    for words, said in [
+        (["find", "--device", "2301"], f"{DEVICE_FAULT}{MORE}"),
+        ([file], f"error: {file} isn't a command; chanv verify {file} judges a deck, "
+         f"chanv find {file} searches an image{MORE}"),
+    ]:
+        yield Case(
+            name=f"chanv {' '.join(words)}",
+            words=[chanv, *words],
+            expected=Ran(4, "", said),
+            complaints=(OUT_OF_MEMORY,),
+            may_stand=True,
+        )
+
+
+def check_next_deck(checks, chanv):
+    """Memory that is refused over one deck is an error there, and the next gets its answer."""
+    words = [chanv, "verify", SEARCH_LOOP, SEARCH_LOOP]
+    wanted = Ran(3, f"{SEARCH_LOOP}: yes\n", f"chanv: {SEARCH_LOOP}: out of memory\n")
+    with tempfile.TemporaryDirectory() as room:
+        growths = Growths(room)
+        _, count = growths.run(words)
+        found = {growths.run(words, refused=number)[0] for number in range(1, count + 1)}
+    checks.expect_that("memory refused over one of two decks", wanted in found, found)
+
+
 def check(checks, built):
     chanv = built.chanv()
+    check_next_deck(checks, chanv)
     cases = [*command_cases(chanv)]
     if is_proved(chanv):
         cases += call_cases(built.unit_tests())
-    cases += [*advice_cases(chanv), *help_cases(chanv)]
+    cases += [*advice_cases(chanv), *help_cases(chanv), *usage_cases(chanv)]
     with tempfile.TemporaryDirectory() as folder:
         growths = Growths(folder)
         for case in cases:

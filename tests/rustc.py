@@ -4,40 +4,42 @@ The program of rustc/ is built with each overflow and each assertion of Rust's l
 unit tests pass. Both programs write the same with the same status over all example decks, large,
 damaged and refused decks, random jobs of the model, their storage as images, each command line,
 each word and each code. So a fault of the kit's compiler or library shows, unless Rust's has the
-same. Usage faults are compared by status: their words are those of clap, whose versions differ.
+same. Usage faults that clap words are compared by status, because its versions differ.
 Each growth of memory is refused too, and streams are full, closed or unread. What the script of
 rustc/ strips, writes and names is looked at by itself.
 
 RUSTC_JOBS says how many random jobs there are. Without it there are few, and only one command is
 refused memory: all takes two minutes of a processor, and this half of that, most of it the build.
-Without cargo or the crates the test is left out, by its name.
+If the program under test is plain rustc's too, nothing is compared. Without cargo or the crates the
+test is left out, by its name.
 """
 
 import os
 import re
 import shlex
-import subprocess
+import socket
 import sys
 import tempfile
+import threading
 from concurrent.futures import ThreadPoolExecutor
 from pathlib import Path
 from random import Random
 
 from answers import make_inputs
-from building import ROOT, short
+from building import ROOT, is_proved, short, version
 from cargo import CHECKED, cargo, missing, program, stripping, workspace
 from command_lines import runs
 from examples import EXAMPLES, FOLDERS, SEARCH_LOOP, TEXTS, decks_of
 from expecting import Checks
 from model import SEED, deck_of, jobs_of
 from refused_decks import refused
-from refused_memory import advice_cases, command_cases
+from refused_memory import advice_cases, check_next_deck, command_cases
 from refusing import Growths
 from rows import without_clap
 from running import Ran, run, run_in_bash, text_of
 from speed import decks_of_bench
 
-FEW = 300
+FEW, WHOLE = 300, 2500
 AT_ONCE = 4
 
 # commands over all decks at once, over a deck, and over an image
@@ -69,6 +71,52 @@ strip.DEBIAN = pathlib.Path("{}")
 sys.argv[1:] = ["{}"]
 strip.main()
 """
+
+# Folders of crates: those of Debian 12 and 13, and others; and what is missing there.
+IN_12 = "arrayvec-0.7.2 byteorder-1.4.3 clap-4.0.32 hex-0.4.3 itoa-1.0.1 strsim-0.10.0 "
+IN_13 = "arrayvec-0.7.6 byteorder-1.5.0 clap-4.5.23 hex-0.4.3 itoa-1.0.14 strsim-0.11.1 "
+ALSO = "clap_lex-0.3.0 thiserror-impl-1.0.37 hex-conservative-0.1.1"
+CRATES = [
+    ("Debian 12", f"{IN_12} {ALSO} thiserror-1.0.37", None),
+    ("Debian 13", f"{IN_13} {ALSO} thiserror-2.0.11", None),
+    ("two versions", f"{IN_13} {ALSO} thiserror-3.0.0 thiserror-1.0.69", None),
+    ("a name alone", f"{IN_13} {ALSO}", "no crates thiserror >=1, <3"),
+    ("too new", f"{IN_13} thiserror-3.0.0", "no crates thiserror >=1, <3 (not 3.0.0)"),
+    ("too old", f"{IN_12} thiserror-0.9.9", "no crates thiserror >=1, <3 (not 0.9.9)"),
+    (
+        "two crates",
+        "arrayvec-0.6.9 byteorder-1.5.0 clap-4.5.23 hex-0.4.3 itoa-1.0.14 strsim-0.9.3"
+        " strsim-0.12.0 thiserror-2.0.11",
+        "no crates arrayvec >=0.7, <0.8 (not 0.6.9); strsim >=0.10, <0.12 (not 0.12.0, 0.9.3)",
+    ),
+]
+
+# what Cargo is told of a crate: name, its other words in crates.txt, what it uses
+PACKAGE = f"""[package]
+name = "{{}}"
+version = "{version()}+not.proved"
+edition = "2024"
+[lints]
+workspace = true
+{{}}[dependencies]
+kit = {{{{ path = "../kit" }}}}
+"""
+MANIFESTS = [
+    (
+        "chanv",
+        [],
+        ["chan_walk", "clap"],
+        PACKAGE.format("chanv", '[[bin]]\nname = "chanv-rustc"\npath = "src/main.rs"\n')
+        + 'chan_walk = { path = "../chan_walk" }\nclap = { path = "../shims/clap" }\n',
+    ),
+    (
+        "chanv_c",
+        ["staticlib"],
+        ["thiserror"],
+        PACKAGE.format("chanv_c", '[lib]\ncrate-type = ["staticlib"]\n')
+        + 'thiserror = ">=1, <3"\n',
+    ),
+]
 
 # the function that the script makes of `main`
 BEGUN = "begun"
@@ -166,7 +214,7 @@ def check_words(checks, programs):
 
 
 def check_command_lines(checks, programs, folder):
-    """The words of a usage fault are clap's, except where a file is named in place of a command."""
+    """The words of a usage fault are clap's, except for the faults that chanv words itself."""
     make_inputs(folder)
     for words, given, _ in runs():
         file = folder / given
@@ -179,10 +227,9 @@ def into_closed_pipe(program):
     """What comes of a program whose standard output is a pipe that nothing reads."""
     reader, writer = os.pipe()
     os.close(reader)
-    words = [program, "list", SEARCH_LOOP]
-    ran = subprocess.run(words, stdout=writer, stderr=subprocess.PIPE, timeout=60)
+    ran = run(program, "list", SEARCH_LOOP, stdout=writer)
     os.close(writer)
-    return ran.returncode, text_of(ran.stderr)
+    return ran
 
 
 def check_streams(checks, programs):
@@ -220,12 +267,14 @@ def check_of_c(checks, strip):
 
 def check_packages(checks, strip):
     """Where nothing is installed the script names what the workspace and its shims use, and README
-    the compiler."""
+    the compiler. A shim takes the versions that the script looks for."""
     shims = [text_of(path) for path in (ROOT / "rustc/shims").glob("*/Cargo.toml")]
-    wrapped = {name for text in shims for name in re.findall(r'package = "(\w+)"', text)}
-    wanted = {f"librust-{name}-dev" for name in {*strip.REAL} | wrapped}
+    wrapped = dict(re.findall(r'package = "(\w+)", version = "(.*?)"', "".join(shims)))
+    for name, versions in wrapped.items():
+        checks.expect(f"the versions of {name} in its shim", strip.range_of(name), versions)
+    wanted = {f"librust-{name}-dev" for name in {*strip.REAL, *wrapped}}
     page, (first, second) = text_of(ROOT / "rustc/README.md"), strip.OLDEST
-    said = re.findall(r"Rust (\S+) or later serves: on\nDebian 12 the packages (.*)\.", page)
+    said = re.findall(r"Rust (\S+) or later\nserves: on Debian the packages (.*),", page)
     names = " and ".join(f"`{name}`" for name in strip.COMPILER)
     line = f"{' '.join(strip.COMPILER)} librust-{{{','.join(strip.NEEDED)}}}-dev"
     found = re.findall(r"(?m)^    apt-get install make gcc python3 (.*)$", page)
@@ -236,16 +285,57 @@ def check_packages(checks, strip):
         checks.expect("the packages of Debian", wanted, {*strip.packages()} - {*strip.COMPILER})
 
 
+def check_versions(checks, strip):
+    """Crates serve by their versions, and one that is missing is named with those that would."""
+    for about, crates, lacks in CRATES:
+        with tempfile.TemporaryDirectory() as room:
+            strip.DEBIAN = Path(room)
+            for crate in crates.split():
+                (strip.DEBIAN / crate).mkdir()
+            checks.expect(f"what is missing, {about}", lacks, strip.lacks(strip.DEBIAN))
+            named = [f"librust-{name}-dev" for name in re.findall(r"(\w+) >=", lacks or "")]
+            packages = [it for it in strip.packages() if it not in strip.COMPILER]
+            checks.expect(f"the packages for it, {about}", named, packages)
+            wanted = None if lacks else strip.DEBIAN
+            checks.expect(f"where crates come from, {about}", wanted, strip.source_of(None))
+    for given, wanted in [("crates.io", None), ("/there", Path("/there")), ("x", Path.cwd() / "x")]:
+        checks.expect(f"where crates come from, --crates {given}", wanted, strip.source_of(given))
+
+
+def check_manifests(checks, strip):
+    own = {"chan_walk", "ccw_core"}
+    for about, words, needs, wanted in MANIFESTS:
+        text = strip.manifest(about, words, needs, own)
+        checks.expect(f"the manifest of {about}", wanted, text)
+
+
+def refuse_all(listening, asked):
+    """Takes connections in, and ends each without an answer."""
+    while True:
+        try:
+            connection, _ = listening.accept()
+        except OSError:
+            return
+        with connection:
+            asked.append(connection.recv(100))
+
+
 def check_fetching(checks):
-    """Without the crates of Debian and without a network, the script says at once what to install."""
-    with tempfile.TemporaryDirectory() as room:
+    """Without the crates of Debian and without a network, the script asks once, and then says what
+    to install."""
+    asked = []
+    with tempfile.TemporaryDirectory() as room, socket.create_server(("127.0.0.1", 0)) as listening:
+        threading.Thread(target=refuse_all, args=(listening, asked), daemon=True).start()
         script = FETCHING.format(ROOT / "rustc", f"{room}/none", f"{room}/workspace")
-        no_network = {"CARGO_HOME": room, "CARGO_HTTP_PROXY": "http://127.0.0.1:9"}
-        environment = {**os.environ, **no_network}
-        ran = run(sys.executable, "-B", "-c", script, env=environment, timeout=10)
-    says = "rustc/strip.py: no crates come from crates.io: .*\non Debian 12: apt-get install librust-"
+        proxy = f"http://127.0.0.1:{listening.getsockname()[1]}"
+        environment = {**os.environ, "CARGO_HOME": room, "CARGO_HTTP_PROXY": proxy}
+        ran = run(sys.executable, "-B", "-c", script, env=environment)
+        listening.shutdown(socket.SHUT_RDWR)
+    says = "rustc/strip.py: no crates come from crates.io: .*\nno crates arrayvec >=0.7, <0.8; .*"
+    says += "; on Debian 12 or 13: apt-get install librust-"
     is_so = ran.status == 1 and re.match(says, ran.error)
     checks.expect_that("what the script says without crates", is_so, ran)
+    checks.expect("how often it asks for them", 1, len(asked))
 
 
 def check_rewriting(checks, strip):
@@ -277,17 +367,6 @@ def growths_of(case):
     return checks
 
 
-def check_next_deck(checks, plain):
-    """Memory that is refused over one deck is an error there, and the next gets its answer."""
-    words = [plain, "verify", SEARCH_LOOP, SEARCH_LOOP]
-    wanted = Ran(3, f"{SEARCH_LOOP}: yes\n", f"chanv: {SEARCH_LOOP}: out of memory\n")
-    with tempfile.TemporaryDirectory() as room:
-        growths = Growths(room)
-        _, count = growths.run(words)
-        found = {growths.run(words, refused=number)[0] for number in range(1, count + 1)}
-    checks.expect_that("memory refused over one of two decks", wanted in found, found)
-
-
 def check_growths(checks, plain, is_whole):
     """A refused growth is reported, also by the crates that can't go on without memory."""
     cases = [*command_cases(plain), *advice_cases(plain)]
@@ -297,23 +376,43 @@ def check_growths(checks, plain, is_whole):
             checks.failed += done.failed
 
 
-def check(checks, built):
-    if why := missing():
-        checks.skip("all of it", why)
-        return
-    count = int(os.environ.get("RUSTC_JOBS") or 0)
-    plain = program()
-    for part in (check_sources, check_of_c, check_packages, check_rewriting):
-        part(checks, stripping())
-    check_fetching(checks)
-    check_unit_tests(checks)
+def check_against(checks, proved, plain, count):
+    """Compares the programs over everything that they may be asked."""
     with tempfile.TemporaryDirectory() as room:
         folder = Path(room)
-        programs = [as_chanv(it, folder) for it in (built.chanv(), plain)]
+        programs = [as_chanv(it, folder) for it in (proved, plain)]
         check_inputs(checks, programs, folder, count or FEW)
         check_words(checks, programs)
         check_streams(checks, programs)
         (folder / "inputs").mkdir()
         check_command_lines(checks, programs, folder / "inputs")
+
+
+def leave_out(checks, is_compared, count):
+    """Names what this run isn't asked for."""
+    if not is_compared:
+        checks.leave_out("each comparison", "the program under test is plain rustc's too")
+    elif count < WHOLE:
+        left = f"random jobs after the first {count or FEW}"
+        checks.leave_out(left, f"RUSTC_JOBS={WHOLE} compares them")
+    if not count:
+        left = "refused memory in all commands but one"
+        checks.leave_out(left, f"RUSTC_JOBS={WHOLE} refuses it")
+
+
+def check(checks, built):
+    if why := missing():
+        checks.skip("all of it", why)
+        return
+    count = int(os.environ.get("RUSTC_JOBS") or 0)
+    plain, is_compared = program(), is_proved(built.chanv())
+    parts = (check_sources, check_of_c, check_packages, check_versions, check_manifests)
+    for part in (*parts, check_rewriting):
+        part(checks, stripping())
+    check_fetching(checks)
+    check_unit_tests(checks)
+    if is_compared:
+        check_against(checks, built.chanv(), plain, count)
     check_next_deck(checks, plain)
     check_growths(checks, plain, count)
+    leave_out(checks, is_compared, count)

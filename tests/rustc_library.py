@@ -24,6 +24,7 @@ from building import HERE, SANITIZED, c_compiler, compile_with
 from expecting import CannotRun
 from library import LINED, check_layout, check_lines, refuse_growths
 from running import run
+from rustc import WHOLE
 
 # tests of tests/run; Python loads the sanitizer before itself
 IN_PYTHON = ["nulls", "python_edges", "python_calls"]
@@ -73,7 +74,7 @@ def check_checking(checks, library):
 def check_plain(checks, room):
     """What sanitizers would hide: bytes of the stack in an answer, and refused memory."""
     plain = cargo.library()
-    check_layout(checks, plain, room)
+    check_layout(checks, plain, room, is_proved=False)
     for name in ("one_call", "bytes"):
         compile_with(plain, HERE / f"c/{name}.c", room / name)
     check_lines(checks, room, "bytes")
@@ -100,11 +101,18 @@ def check_tests(checks, library, chanv, is_whole):
 
 def count(checks, names, ran):
     *lines, last = ran.output.splitlines() or [""]
-    found = re.fullmatch(r"(\d+) passed, (\d+) failed", last)
+    found = re.fullmatch(r"(\d+) passed, (\d+) failed(?:, \d+ skipped)?", last)
     checks.passed += int(found[1]) if found else 0
     checks.skipped += [line for line in lines if line.startswith("skipped ")]
     if ran.status != 0 or not found:
         checks.fail(f"{names} over it", *ran.output.splitlines(), *ran.error.splitlines())
+
+
+def leave_out(checks, is_whole):
+    """Names what this run isn't asked for."""
+    if not is_whole:
+        left = f"{LONG} in C, and the tests {', '.join(LONG_IN_PYTHON + LONG_IN_C)} over it"
+        checks.leave_out(left, f"RUSTC_JOBS={WHOLE} tries them")
 
 
 def check(checks, built):
@@ -112,6 +120,7 @@ def check(checks, built):
         checks.skip("all of it", why)
         return
     library, is_whole = library_under_test(checks), bool(os.environ.get("RUSTC_JOBS"))
+    leave_out(checks, is_whole)
     with tempfile.TemporaryDirectory() as room:
         check_checking(checks, library)
         check_programs(checks, library, Path(room), is_whole)

@@ -49,6 +49,10 @@ class Item(NamedTuple):
         """Its name as `rt check` has it, but for the crate."""
         return f"{self.module}::{self.short()}" if self.module else self.short()
 
+    def is_for_c(self):
+        """Whether it is a function that C calls."""
+        return bool(re.match(r" *pub extern +fn\b", self.text))
+
     def holds(self, file, text, some):
         """Whether some text stands in it, where its file has that text."""
         return self.file == file and some in text[self.start : self.end]

@@ -1,6 +1,13 @@
-"""Three decks and an image of bench/, each with more time than it takes, but not for worse growth.
+"""No command is worse than linear, times a logarithm, in the size of its input.
 
-Each is as large as the limits admit in one respect: 65,536 places with a seek argument for every
+Each command runs over each input of bench/worst.py, and over command lines that grow, at one size
+and at four times that size: instructions grow by at most GROWTH, whatever they are. So an answer
+that goes through all lent areas for each place, or looks at the rest of a line at each blank,
+fails. DECISIONS names the exceptions. The sizes are small, because a comparison of each with each
+shows at a thousand.
+
+Three decks and an image of bench/ have more time than they take, but not for worse growth. Each is
+as large as the limits admit in one respect: 65,536 places with a seek argument for every
 second one, a half million areas in the worst order, and as many offences with the longest path. The
 bounds are seconds of a processor, some ten times as many as one of 2020 needs. An algorithm that
 compares each with each needs more than that. In the image, a million programs lead into one chain:
@@ -12,16 +19,20 @@ each byte alone, take more. A start beside a program with 65,536 rows of each ki
 takes at most 12 instructions for each row. So is a picture of 65,536 places, with some 100,000
 arrows: a search from the first place on for each takes more. So is a verdict on 4,096 places whose
 addresses are chosen to share lists: if the walk did not make more lists early, it would take three
-quarters more instructions. valgrind counts the instructions; without it this part is left out, by its
-name.
+quarters more instructions. So is a verdict on 65,410 places at 21,800 doublewords side by side: if
+those of 512 bytes shared a list, it would take almost four times as many. valgrind counts the
+instructions; without it this part is left out, by its name.
 """
 
+import concurrent.futures
+import functools
 import heapq
 import os
 import random
 import re
 import shutil
 import subprocess
+import sys
 import tempfile
 from importlib import util
 from pathlib import Path
@@ -52,8 +63,59 @@ GOLDEN = 0x9E3779B1
 SHARING = 4_096, 30_000_000
 STORAGE_LIMIT = 16_777_216
 
+# how many CCWs lie side by side, and how many instructions the verdict may take
+SIDE_BY_SIDE = 21_800, 84_000_000
+
 # the processor time after which the system ends a run, and the most for `find`
 LAST_SECOND = 20
+
+# what makes inputs that are hard on some command
+WORST = ROOT / "bench/worst.py"
+
+# by how much instructions may grow if an input grows by TIMES: for a thousand, 4.8 times the work
+# of a sort
+TIMES, GROWTH = 4, 5.0
+
+# each command that reads decks, and each that reads images, where N bytes are eight for each of the
+# input's size; an image's storage is as long as bench/worst.py may want
+DECK_COMMANDS = [
+    "verify",
+    "list",
+    "list --wide",
+    "list --range 800-80F",
+    "list --range 800+{N:X}",
+    "why",
+    "why --all",
+    "why --of 800",
+    "needs",
+    "needs --deck",
+    "graph",
+]
+IMAGE_COMMANDS = [
+    "find --device 2314 --storage 80000",
+    "deck --device 2314 --start 800 --extent 0-202 --storage 80000",
+    "deck --device 2314 --start 800 --least --storage 80000",
+]
+
+# what may grow faster, by command and input, as docs/DECISIONS.md says
+EXCEPTIONS = {("graph", "stores over all")}
+
+# command lines: what comes first, what comes again and again, and how often; at last the status
+WORDS = [
+    ("deck --device 2314 --start 0 --extent 0-202 --storage 1000", "--fetch 900+10", 500, 0),
+    ("deck --device 2314 --start 0 --storage 1000", "--extent 0-202", 500, 0),
+    ("explain", "misaligned", 500, 4),
+    ("explain", "sek", 500, 4),
+    ("verify", "no-such-file", 200, 3),
+]
+# one word that grows: what comes before it, a part of it, how often, and the status
+LONG_WORDS = [
+    ("explain", "x", 2_000, 4),
+    ("show", "0", 2_000, 4),
+    ("show --name", "0 ", 2_000, 4),
+    ("list", "--wide", 500, 4),
+    ("", "find", 500, 4),
+]
 
 # how many places `find` judges in an image, as docs/OUTPUT.md says
 PLACES_JUDGED = 16_777_216
@@ -101,10 +163,75 @@ def sharing(count):
     return of_bench("decks").linked([8 * at for at in chosen])
 
 
+def side_by_side(count):
+    """A deck of a data chain of so many CCWs, which a read, a write and a search enter."""
+    words = ["3100100040000005", "0800203000000000", "3100100040000005", "0800204000000000"]
+    for code in ("06", "05", "31"):
+        words += [f"{code}00100080000005", "0801000000000000"]
+    lines = [f"put {0x2000 + 8 * at:06X} {word}\n" for at, word in enumerate(words)]
+    for at in range(count):
+        flags = "80" if at + 1 < count else "00"
+        lines.append(f"put {0x10000 + 8 * at:06X} 00001000{flags}000001\n")
+    head = "chanv deck 2\ndevice 2314\nmask C0\nstart 002000\nlimit 65536\nextent 000 202\n"
+    lent = "fetch 001000 000005\nstore 001000 000005\nstorage 0100000\n"
+    return f"{head}{lent}{''.join(lines)}end\n"
+
+
+@functools.cache
+def worst(*words):
+    """What bench/worst.py writes."""
+    return subprocess.run([sys.executable, WORST, *words], capture_output=True, check=True).stdout
+
+
+def over_input(command, name, size):
+    """The words and the input of a command over an input of bench/worst.py."""
+    return command.format(N=8 * size).split(), worst(name, str(size))
+
+
+def again_and_again(first, words, size):
+    return [*first.split(), *words.split() * size], b""
+
+
+def with_long_word(first, part, size):
+    return [*first.split(), part * size], b""
+
+
+def growths():
+    """What is measured: its name, a size, what gives words and input for a size, and the statuses."""
+    for line in worst().decode().splitlines():
+        kind, name, size = line.split("\t")
+        for command in DECK_COMMANDS if kind == "deck" else IMAGE_COMMANDS:
+            if (command, name) not in EXCEPTIONS:
+                given = functools.partial(over_input, command, name)
+                yield f"{command} over {name}", int(size), given, {0, 1, 2}
+    for how, rows in ((again_and_again, WORDS), (with_long_word, LONG_WORDS)):
+        for first, part, size, status in rows:
+            yield f"{first} {part} ..", size, functools.partial(how, first, part), {status}
+
+
+def counted(program, words, given):
+    """The status of a run, and how many instructions it takes."""
+    ran = run("valgrind", "--tool=callgrind", "--callgrind-out-file=/dev/null", program, *words,
+              given=given)
+    found = re.search(r"Collected : (\d+)", ran.error)
+    return ran.status, int(found[1]) if found else 0
+
+
+def check_growth(checks, program):
+    """Each command over each input that is hard on some command, and command lines that grow."""
+
+    def measure(row):
+        name, size, given_at, statuses = row
+        return name, statuses, [counted(program, *given_at(at)) for at in (size, TIMES * size)]
+
+    with concurrent.futures.ThreadPoolExecutor(2) as beside:
+        for name, statuses, [(status, count), (again, more)] in beside.map(measure, growths()):
+            checks.expect_that(f"{name}, the statuses", {status, again} <= statuses, (status, again))
+            is_so = 0 < more <= GROWTH * count
+            checks.expect_that(f"{name}, grows by at most {GROWTH}", is_so, f"{count}, then {more}")
+
+
 def check_instructions(checks, built, decks, room):
-    if shutil.which("valgrind") is None:
-        checks.skip("instructions", "no valgrind")
-        return
     program = compile_with(built.library(), HERE / "c/many_rows.c", room / "many_rows")
     only = ["--toggle-collect=chanv_check_start"]
     for words, most in INSTRUCTIONS:
@@ -115,6 +242,9 @@ def check_instructions(checks, built, decks, room):
     count, most = SHARING
     deck = "".join(sharing(count)).encode()
     check_count(checks, "verify, places that share lists", most, built.chanv(), "verify", given=deck)
+    count, most = SIDE_BY_SIDE
+    deck = side_by_side(count).encode()
+    check_count(checks, "verify, places side by side", most, built.chanv(), "verify", given=deck)
 
 
 def check_find(checks, program, room):
@@ -136,8 +266,14 @@ def check_find(checks, program, room):
 
 def check(checks, built):
     program, decks = built.chanv(), decks_of_bench()
+    has_valgrind = shutil.which("valgrind") is not None
+    if has_valgrind:
+        check_growth(checks, program)
+    else:
+        checks.skip("instructions", "no valgrind")
     with tempfile.TemporaryDirectory() as room:
-        check_instructions(checks, built, decks, Path(room))
+        if has_valgrind:
+            check_instructions(checks, built, decks, Path(room))
         check_find(checks, program, Path(room))
     with tempfile.TemporaryDirectory() as room:
         for name, command, most, wanted in BOUNDS:

@@ -10,6 +10,8 @@ import random
 from package import package
 
 CASES, SEED = 4000, 1964
+# how many rows are in flight, mostly, and at most
+FEW, MANY = 4, 12
 # both parts of a file mask, from the laxest bits to the strictest
 WRITES, SEEKS = (0xC0, 0x00, 0x80, 0x40), (0x00, 0x08, 0x10, 0x18)
 MASKS = [writes | seeks for writes in WRITES for seeks in SEEKS]
@@ -119,7 +121,7 @@ class Dice(random.Random):
 
     def job(self, chanv):
         return chanv.Job(
-            storage=bytes(self.randrange(3) for _ in range(SIZE)),
+            storage=bytearray(self.randrange(3) for _ in range(SIZE)),
             start=8,
             extents=[(0, 202)] if self.randrange(3) else [(10, 19), (18, 30)],
             fetch=[(0, SIZE)] if self.randrange(3) else self.areas(6),
@@ -147,7 +149,8 @@ class Dice(random.Random):
         )
 
     def in_flight(self, chanv, job):
-        return [self.row(chanv, job) for _ in range(self.randrange(4))]
+        most = self.choice([FEW, FEW, MANY])
+        return [self.row(chanv, job) for _ in range(self.randrange(most))]
 
     def row(self, chanv, job):
         """Mostly a program in flight; or others who write or rely on bytes; or none."""
@@ -163,7 +166,7 @@ def told(permission):
 
 
 def check(checks, built):
-    chanv, dice, seen = package(built), Dice(SEED), set()
+    chanv, dice, seen, numbers = package(built), Dice(SEED), set(), set()
     for number in range(CASES):
         job = dice.job(chanv)
         program, in_flight = dice.program(chanv, job), dice.in_flight(chanv, job)
@@ -178,4 +181,8 @@ def check(checks, built):
         checks.expect(f"areas {number}", wanted_kept, told(chanv.keeps_only(program, areas)))
         answers = wanted, wanted_write, wanted_kept
         seen |= {answer[0] if answer else "yes" for answer in answers}
+        numbers |= {(answer[0], answer[2]) for answer in answers if answer}
     checks.expect("each answer comes", {*ANSWERS}, seen)
+    for word in ("stores-over-kept", "keeps-stored-over", "writes-over-kept"):
+        found = {number for answer, number in numbers if answer == word}
+        checks.expect_that(f"{word} by a row after many", max(found) >= FEW + 2, found)

@@ -59,6 +59,7 @@ __all__ = [
     "find",
     "keeping",
     "keeps_only",
+    "library_version",
     "may_start",
     "may_write",
     "needs",
@@ -171,7 +172,7 @@ class Job(_LaidOut):
     `verify`, `places`, `why` and `text` copy storage that can change, because Python's other
     threads run meanwhile. With `copy=False` they don't: then nothing may write storage from the
     call to its return. `needs` and `may_start` never copy it: they are right even while other
-    threads write.
+    threads write. `may_start` wants main storage itself, so it refuses `bytes`, which never change.
     """
 
     storage: Storage = field(repr=False)  # main storage from address 0 on, as it is now
@@ -379,10 +380,13 @@ def may_start(job: Job, program: Program, in_flight: Collection[Program | None])
     """Whether a program may start under a job beside those in flight; None in the list is nobody.
 
     It is `chanv_check_start`, and a yes has the premises that chanv.h lists. An iterator is no list
-    of them, but a TypeError: asked about twice, it would be empty.
+    of them, but a TypeError: asked about twice, it would be empty. So is a job over `bytes` or a
+    view of `bytes`: the kept bytes are compared with main storage as it is now, not with a copy.
     """
     out, flying = _c.Refusal(), _programs(in_flight)
     starting = byref(_made_of(program))
+    if _c.never_changes(job.storage):
+        raise TypeError("may_start asks about main storage as it is now, and bytes never change")
     with _job(job, job.storage) as made:
         given = flying, c_size_t(len(flying)), starting, byref(out)
         answer = _c.library.chanv_check_start(byref(made), *given)
@@ -400,6 +404,11 @@ def may_write(area: Sequence[int], in_flight: Collection[Program | None]) -> Per
     answer = _c.library.chanv_check_write(flying, c_size_t(len(flying)), byref(made), byref(out))
     _must_answer(answer, 0)
     return _permission(out)
+
+
+def library_version() -> str:
+    """The version of the library, such as 0.8.0, or 0.8.0+not.proved if nothing of it is proved."""
+    return _c.version_of(_c.library)
 
 
 def storing(*areas: Sequence[int]) -> Program:

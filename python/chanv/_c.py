@@ -17,6 +17,9 @@ SONAME = "libchanv.so.0.8"
 # the codes that this package tells apart
 YES, NO, NO_ROOM = 0, 1, 11
 
+# the bit of chanv_version that says that nothing of the library is proved
+NOT_PROVED = 0x80000000
+
 PACKAGES_OF_PIP = ("site-packages", "dist-packages")
 
 
@@ -188,6 +191,11 @@ def quiet(storage: Any) -> bytes:
     return storage if isinstance(storage, bytes) else bytes(memoryview(storage))
 
 
+def never_changes(storage: Any) -> bool:
+    """Whether an object with bytes is `bytes` or a view of them, so only a copy of main storage."""
+    return isinstance(memoryview(storage).obj, bytes)
+
+
 @contextmanager
 def bytes_of(storage: Any) -> Iterator[Bytes]:
     """The memory of an object with bytes, as long as the block lasts; without a copy."""
@@ -263,10 +271,12 @@ def _found() -> str:
     return next((str(file) for file in files if file.is_file()), SONAME)
 
 
-def _version_of(library: CDLL) -> str:
-    packed = library.chanv_version()
-    # the highest bit says that nothing of the library is proved
-    return f"{packed >> 16 & 0x7FFF}.{packed >> 8 & 255}.{packed & 255}"
+def version_of(library: CDLL) -> str:
+    """What chanv_version says, with `+not.proved` if nothing of the library is proved."""
+    library.chanv_version.restype = c_uint32
+    packed: int = library.chanv_version()
+    proof = "+not.proved" if packed & NOT_PROVED else ""
+    return f"{packed >> 16 & 0x7FFF}.{packed >> 8 & 255}.{packed & 255}{proof}"
 
 
 def _load() -> CDLL:
@@ -279,7 +289,7 @@ def _load() -> CDLL:
         told = "; CHANV_LIBRARY can name it" if path == SONAME else ""
         raise WrongLibrary(f"there is no library {path}{told}: {error}") from error
     try:
-        version = _version_of(library)
+        version = version_of(library)
     except AttributeError as error:
         raise WrongLibrary(f"{path} isn't chanv's library: {error}") from error
     if version.split(".")[:2] != VERSION.split(".")[:2]:

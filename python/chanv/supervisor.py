@@ -3,6 +3,7 @@
 from collections.abc import Callable, Iterator, Sequence
 from dataclasses import replace
 from threading import Lock
+from weakref import WeakValueDictionary
 
 from . import Answer, Error, Job, NoAnswer, Pairs, Permission, Program
 from . import keeping, keeps_only, may_start, may_write, needs, storing
@@ -11,8 +12,6 @@ __all__ = ["Refused", "Supervisor"]
 
 # how often a program is taken in that changes each time
 TRIES = 8
-# all storage, except where the machine itself stores PSWs, the CSW and the timer
-USUAL = [(0x80, 0xFFFF80)]
 # what is refused of a program that is safe
 WORDS = "may-hang", "interrupts", "ends-chaining"
 
@@ -31,7 +30,8 @@ class Supervisor:
     >>> storage = bytearray(0x1000)
     >>> storage[0x800:0x808] = bytes.fromhex("06000A0020000050")  # read 80 bytes to A00
     >>> job = Job(storage, 0x800, extents=[(10, 19)], store=[(0xA00, 0x100)])
-    >>> supervisor = Supervisor(start_io=lambda unit, job: True)
+    >>> own = [(0x800, 0x800)]  # the users' own storage, where the machine itself never stores
+    >>> supervisor = Supervisor(start_io=lambda unit, job: True, own=own)
     >>> program = supervisor.take_in(job)
     >>> print(supervisor.start(0x190, job, program))
     yes
@@ -44,10 +44,13 @@ class Supervisor:
     now. A unit is an arm, by its number, and of the job's type. If `start_io` raises, the program
     counts as in flight. What the supervisor calls runs under its lock and doesn't call it.
 
+    `own` is the storage of the users, as pairs of start and length: not low storage, where the
+    machine stores PSWs, the CSW and the timer and logs out, nor the system's own. Only you know
+    where it is, so it has no default. Whatever else writes `own` asks by `write`.
+
     `take_in` refuses a program
 
-    - that keeps bytes outside `own`, usually all storage from 000080 on, because the machine itself
-      stores below. Whatever else writes `own` asks by `write`;
+    - that keeps bytes outside `own`;
     - that may go on until you halt it, unless `hanging`;
     - with a program-controlled interruption, unless `interrupting`: it invites the processor to
       change the program, and chanv hasn't seen what is written then;
@@ -61,7 +64,7 @@ class Supervisor:
         self,
         start_io: Callable[[int, Job], object],
         *,
-        own: Pairs = USUAL,
+        own: Pairs,
         guarded: Pairs = (),
         hanging: bool = False,
         interrupting: bool = False,
@@ -70,21 +73,27 @@ class Supervisor:
         self._start_io, self._own, self._guarded = start_io, own, [*guarded]
         self._takes = hanging, interrupting, ending_chains
         self._lock = Lock()
+        self._taken_in: WeakValueDictionary[int, Program] = WeakValueDictionary()  # by their ids
         # by unit, and what is guarded
         self._table: dict[int | None, Program] = {None: keeping(*self._guarded)}
 
     def take_in(self, job: Job, own: Pairs | None = None) -> Program:
         """Takes the job's program in, over storage that anything may write; `own` is the storage of
-        its user. It raises Refused, or like `needs`; CHANGED_MEANWHILE only after some tries."""
+        its user alone, and if left out that of all users. It raises Refused, or like `needs`;
+        CHANGED_MEANWHILE only after some tries."""
         program = _settled(job)
         for permission in self._refusals(program, self._own if own is None else own):
             if not permission:
                 raise Refused(permission)
+        self._taken_in[id(program)] = program
         return program
 
     def start(self, unit: int, job: Job, program: Program) -> Permission:
-        """Starts a program that was taken in, if its unit is free and it may start. It is in flight
-        until it leaves. A refusal names the unit of the program in the way."""
+        """Starts a program that `take_in` returned, if its unit is free and it may start. It is in
+        flight until it leaves. A refusal names the unit of the program in the way. For any other
+        program, also an equal one, it raises ValueError."""
+        if self._taken_in.get(id(program)) is not program:
+            raise ValueError("this supervisor didn't take the program in")
         with self._lock:
             if unit in self._table:
                 return Permission("unit-in-use")

@@ -67,6 +67,17 @@ static inline struct chanv_job generous(void)
     return job;
 }
 
+/* The word for each number, and for the first numbers without a word. */
+static inline void print_words(void)
+{
+    for (uint32_t reason = 0; reason < 18; reason++)
+        printf("reason %" PRIu32 ": %s\n", reason, chanv_reason_word(reason));
+    for (uint32_t number = 0; number < 14; number++)
+        printf("number %" PRIu32 ": %s%s, %s, %s\n", number, chanv_answer_word(number),
+               chanv_is_fault(number) ? " (a fault)" : "", chanv_refusal_word(number),
+               chanv_entered_word(number));
+}
+
 /* A job with each fault that it can have at once, of which each step takes one away. It gives the
  * step's name, or NULL after the last. */
 static inline const char *take_fault_away(int step, struct chanv_job *job)

@@ -303,11 +303,6 @@ int main(void)
     list_with_little_room();
     ask_about_parts();
     ask_at_the_limits();
-    for (uint32_t reason = 0; reason < 18; reason++)
-        printf("reason %" PRIu32 ": %s\n", reason, chanv_reason_word(reason));
-    for (uint32_t number = 0; number < 14; number++)
-        printf("number %" PRIu32 ": %s%s, %s, %s\n", number, chanv_answer_word(number),
-               chanv_is_fault(number) ? " (a fault)" : "", chanv_refusal_word(number),
-               chanv_entered_word(number));
+    print_words();
     return 0;
 }

@@ -1,7 +1,7 @@
 /* The header is free of warnings by itself, in C and in C++. The program prints the version four
  * times: as the header's text, by the header's numbers, and as header and library say it in one
- * number; and then the sizes of its enums and the layout of its structs, which the file that is
- * included lists. */
+ * number; then what else the library says in that number; and then the sizes of its enums and the
+ * layout of its structs, which the file that is included lists. */
 #include <chanv.h>
 #include <stdio.h>
 
@@ -18,7 +18,7 @@ int main(void)
            CHANV_VERSION_PATCH);
     for (int i = 0; i < 2; i++)
         printf(" %u.%u.%u", versions[i] >> 16, versions[i] >> 8 & 0xFF, versions[i] & 0xFF);
-    printf("\n");
+    printf("%s\n", chanv_version() & CHANV_NOT_PROVED ? " not proved" : "");
 #include "structs.h"
     return 0;
 }

@@ -56,7 +56,7 @@ class Flights:
             word = job.storage[at : at + 8]
             if at < ARGUMENTS and any(word):
                 address = (int.from_bytes(word[1:4]) + base) & 0xFFFFFF
-                word = word[:1] + address.to_bytes(3) + word[4:]
+                word = word[:1] + address.to_bytes(3, "big") + word[4:]
             self.write(at + base, word)
         asked = job._replace(storage=self.storage, start=job.start + base, limit=4096)
         is_listed = self.supervisor.take_in(number, asked)

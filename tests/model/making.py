@@ -48,15 +48,18 @@ def word_of(random, code, targets, is_last):
     flags |= random.choice([0, 0x20, 0x28, SKIP])
     flags |= random.randrange(8) if one_in(random, 50) else 0
     address = address_of(random, code, count, targets)
-    return bytes([code, *address.to_bytes(3), flags, random.randrange(2), *count.to_bytes(2)])
+    place, size = address.to_bytes(3, "big"), count.to_bytes(2, "big")
+    return bytes([code, *place, flags, random.randrange(2), *size])
 
 
 def argument_of(random):
     """The argument of a seek, mostly to a cylinder of the usual extent."""
     cylinder = random.randrange(300) if one_in(random, 16) else random.randrange(10, 20)
+    # the device's last cylinder and the next come as often as fifty others
+    cylinder = LAST_CYLINDER + cylinder % 2 if cylinder >= 250 else cylinder
     head = random.randrange(25) if one_in(random, 8) else random.randrange(10)
     bin_number = 1 if one_in(random, 30) else 0
-    return b"".join(it.to_bytes(2) for it in (bin_number, cylinder, head, 0))
+    return b"".join(it.to_bytes(2, "big") for it in (bin_number, cylinder, head, 0))
 
 
 def areas_of(random, start, end):
@@ -71,10 +74,12 @@ def areas_of(random, start, end):
 
 
 def extents_of(random):
+    """Mostly one extent; else any two, or two that adjoin."""
     if one_in(random, 8):
         first = random.randrange(LAST_CYLINDER + 1)
-        return [(first, random.randrange(first, LAST_CYLINDER + 1)), (10, 12)]
-    return [(0, 19)] if one_in(random, 3) else [(10, 19)]
+        last = random.randrange(first, LAST_CYLINDER + 1)
+        return [(10, 12), (13, 13 + last % 6)] if first % 2 else [(first, last), (10, 12)]
+    return random.choice([[(0, 19)], [(10, 14), (15, LAST_CYLINDER)], [(10, 19)]])
 
 
 def random_job(random):
@@ -99,6 +104,22 @@ def random_job(random):
         areas_of(random, DATA if one_in(random, 2) else PROGRAM, END),
         random.randrange(1, 8) if one_in(random, 20) else 4096,
     )
+
+
+def many_arguments(seeks):
+    """A job of seeks, each with an argument of its own, and of a read over each of their bytes."""
+    words = [(SEEKS[0], 8 * at, 6) for at in range(seeks)]
+    words += [(READS[0], at + byte, 1) for _, at, _ in words for byte in range(6)]
+    start, size = 8 * seeks, 8 * (seeks + len(words))
+    arguments = b"".join(it.to_bytes(2, "big") for it in (0, 10, 0, 0)) * seeks
+    program = b"".join(
+        bytes([code, *address.to_bytes(3, "big"), CHAIN_COMMAND, 0, *count.to_bytes(2, "big")])
+        for code, address, count in words
+    )
+    ends = bytes([NO_OPERATION, 0, 0, 0, 0, 0, 0, 1])
+    everything = [(0, size)]
+    storage = arguments + program + ends
+    return Job(storage, start, 2314, 0xC0, [(10, 10)], everything, everything, 4096)
 
 
 def changed(job, random):

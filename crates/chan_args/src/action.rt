@@ -12,7 +12,7 @@ pub enum Action {
     /// the verdict.
     Range { start: u32, len: u32 },
     /// Writes the explanation of the verdict.
-    Why(Explained),
+    Why(Asked),
     /// Writes the picture of the program in Graphviz's language.
     Graph,
     /// Writes what the deck's program needs of each job under which it may run, and what it keeps,
@@ -23,7 +23,7 @@ pub enum Action {
 
 /// What an explanation tells.
 #[derive(Clone, Copy, PartialEq, Eq)]
-pub enum Explained {
+pub enum Asked {
     /// The verdict's offence, and the address and reason of each other.
     First,
     /// The same, with the cause of each other.

@@ -1,52 +1,46 @@
 //! The command line: which words ask for what.
 
-use crate::action::{Action, Explained};
+use crate::action::{Action, Asked};
 use crate::command_table::command;
-use crate::image_command::{ImageRequest, image_request};
-use crate::words_met::{is_flagged, text_met, texts_met};
+use crate::image_request::{ImageRequest, OptionError, image_request};
+use crate::met::{is_flagged, text_met, texts_met};
+use crate::option_text::{area_of, offence_of};
+use crate::usage_fault::{OptionFault, of_file, of_library, of_many_ccws, of_option};
+use crate::valued_option::ValuedOption;
+use ccw_core::Area;
 use clap::error::ErrorKind;
 use clap::{ArgMatches, Error};
 use std::alloc::{AllocError, Global};
 
-/// The request of a command line.
+/// The request of a command line, with the values of its options.
 #[derive(Drop)]
 pub enum Request<'a> {
-    /// To show a CCW. The texts are the words that were given for it: one, or two of eight digits.
-    Show(Vec<&'a str>),
-    /// The same, with the name of its command; there may be any number of words.
-    ShowNamed(Vec<&'a str>),
-    /// Nothing: too many words were given for it.
-    ManyCcws,
-    /// To read the deck of each of these files in turn and do this with it. `-` is standard input,
-    /// and an empty list means standard input too.
-    Run(Action, Vec<&'a str>),
-    /// To make a deck of an image of storage.
-    Image(ImageRequest<'a>),
-    /// To find the programs in an image of storage.
-    Find(ImageRequest<'a>),
-    /// To explain the first offence at the address that the text spells, in the deck of each of
-    /// these, as `Run` does.
-    ExplainOffence(&'a str, Vec<&'a str>),
-    /// To list the range of storage that the text spells, of the deck of each of these, as `Run`
-    /// does.
-    ListRange(&'a str, Vec<&'a str>),
-    /// To say what a word means, which may have blanks between its parts.
+    /// To do this with each of these files in turn. `-` is standard input, and an empty list means
+    /// standard input too.
+    Run(Task, Vec<&'a str>),
+    /// To show the CCW of these words, maybe with the name of its command.
+    Show { words: Vec<&'a str>, is_named: bool },
+    /// To say what a word means, which may have blanks between its parts; or to list the words that
+    /// have a meaning, if there is no part.
     Explain(Vec<&'a str>),
-    /// To say what the flags of a listing mean, which begin like an option.
-    ExplainFlags(&'a str),
-    /// To list the words that have a meaning.
-    Words,
-    /// Help. Its text is the error's.
-    Help(Error),
-    /// The version. Its text is the error's.
-    Version(Error),
-    /// Nothing: the word after the program's name isn't a command. The text that says so is the
-    /// error's.
-    NoCommand(&'a str, Error),
-    /// Nothing: clap doesn't take the words. The text that says why is the error's.
-    Fault(Error),
+    /// To print this: help or the version.
+    Print(String),
+    /// Nothing: the word after the program's name isn't a command. The texts are those of the usage
+    /// fault, the second one if the word is the name of a file.
+    NoCommand(&'a str, String, String),
+    /// Nothing: this is the text of the usage fault.
+    Usage(String),
     /// It isn't known: an allocation was refused.
     NoMemory,
+}
+
+/// What is done with each file.
+#[derive(Drop)]
+pub enum Task {
+    /// Its deck is judged.
+    Judge(Action),
+    /// The programs in its image are found, or a deck is made of it.
+    Search(ImageRequest),
 }
 
 /// What the words ask for, or why clap doesn't take them.
@@ -57,9 +51,14 @@ fn asked<'a>(alloc: Global, words: &'a [String]) -> Result<Request<'a>, Error> {
 
 /// The request for the command that clap met, or for `verify` if it met none.
 fn request_of<'a>(alloc: Global, matches: &ArgMatches<'a>) -> Result<Request<'a>, AllocError> {
-    match matches.subcommand() {
+    let asked = match matches.subcommand() {
         Some((name, inner)) => request_named(alloc, name, inner),
-        None => Ok(Request::Run(Action::Verify, Vec::new(alloc))),
+        None => Ok(Request::Run(Task::Judge(Action::Verify), Vec::new(alloc))),
+    };
+    match asked {
+        Ok(request) => Ok(request),
+        Err(OptionError::Wrong(fault)) => Ok(Request::Usage(of_option(alloc, fault)?)),
+        Err(OptionError::Memory) => Err(AllocError),
     }
 }
 
@@ -68,30 +67,78 @@ fn request_named<'a>(
     alloc: Global,
     name: &str,
     matches: &ArgMatches<'a>,
-) -> Result<Request<'a>, AllocError> {
+) -> Result<Request<'a>, OptionError<'a>> {
+    let task = match name {
+        "show" => return show_request(alloc, matches).map_err(|_| OptionError::Memory),
+        "explain" => {
+            let words = texts_met(alloc, matches, "WORD").map_err(|_| OptionError::Memory)?;
+            return Ok(Request::Explain(words));
+        }
+        "find" => Task::Search(image_request(alloc, matches, true)?),
+        "deck" => Task::Search(image_request(alloc, matches, false)?),
+        _ => Task::Judge(action_named(name, matches)?),
+    };
+    let files = texts_met(alloc, matches, "FILE").map_err(|_| OptionError::Memory)?;
+    Ok(Request::Run(task, files))
+}
+
+/// What the command of this name does with a deck.
+fn action_named<'a>(name: &str, matches: &ArgMatches<'a>) -> Result<Action, OptionError<'a>> {
     match name {
-        "show" => show_request(alloc, matches),
-        "list" => list_request(alloc, matches),
-        "why" => why_request(alloc, matches),
-        "graph" => request_over(alloc, Action::Graph, matches),
-        "needs" => needs_request(alloc, matches),
-        "find" => Ok(Request::Find(image_request(alloc, matches)?)),
-        "deck" => Ok(Request::Image(image_request(alloc, matches)?)),
-        "explain" => explain_request(alloc, matches),
-        _ => request_over(alloc, Action::Verify, matches),
+        "list" => list_action(matches),
+        "why" => why_action(matches),
+        "graph" => Ok(Action::Graph),
+        "needs" => Ok(Action::Needs {
+            deck: is_flagged(matches, "deck"),
+        }),
+        _ => Ok(Action::Verify),
+    }
+}
+
+/// The listing that is asked for: of the places, or of a range.
+fn list_action<'a>(matches: &ArgMatches<'a>) -> Result<Action, OptionError<'a>> {
+    let Some(text) = text_met(matches, "range") else {
+        return Ok(Action::List {
+            wide: is_flagged(matches, "wide"),
+        });
+    };
+    match area_of(text) {
+        Ok(Area { start, len }) => Ok(Action::Range { start, len }),
+        Err(why) => Err(OptionError::Wrong(OptionFault {
+            option: ValuedOption::Range,
+            text,
+            why,
+        })),
+    }
+}
+
+/// The explanation that is asked for.
+fn why_action<'a>(matches: &ArgMatches<'a>) -> Result<Action, OptionError<'a>> {
+    let Some(text) = text_met(matches, "of") else {
+        return Ok(Action::Why(if is_flagged(matches, "all") {
+            Asked::All
+        } else {
+            Asked::First
+        }));
+    };
+    match offence_of(text) {
+        Ok(address) => Ok(Action::Why(Asked::At(address))),
+        Err(why) => Err(OptionError::Wrong(OptionFault {
+            option: ValuedOption::Of,
+            text,
+            why,
+        })),
     }
 }
 
 /// The request to show the words that clap met as the CCW.
 fn show_request<'a>(alloc: Global, matches: &ArgMatches<'a>) -> Result<Request<'a>, AllocError> {
     let words = texts_met(alloc, matches, "CCW")?;
-    if is_flagged(matches, "name") {
-        return Ok(Request::ShowNamed(words));
+    let is_named = is_flagged(matches, "name");
+    if is_named || may_be_ccw(words.as_slice()) {
+        return Ok(Request::Show { words, is_named });
     }
-    if may_be_ccw(words.as_slice()) {
-        return Ok(Request::Show(words));
-    }
-    Ok(Request::ManyCcws)
+    Ok(Request::Usage(of_many_ccws(alloc)?))
 }
 
 /// Whether words may be one CCW: it is one word, or two of eight characters.
@@ -101,50 +148,6 @@ fn may_be_ccw(words: &[&str]) -> bool {
         [first, second] => first.len() == 8 && second.len() == 8,
         _ => false,
     }
-}
-
-/// The request of `explain WORD`, or of `explain` alone.
-fn explain_request<'a>(alloc: Global, matches: &ArgMatches<'a>) -> Result<Request<'a>, AllocError> {
-    let words = texts_met(alloc, matches, "WORD")?;
-    if words.is_empty() {
-        return Ok(Request::Words);
-    }
-    Ok(Request::Explain(words))
-}
-
-/// The request to list the places of the decks that clap met, or a range of their storage.
-fn list_request<'a>(alloc: Global, matches: &ArgMatches<'a>) -> Result<Request<'a>, AllocError> {
-    let wide = is_flagged(matches, "wide");
-    match text_met(matches, "range") {
-        Some(range) => Ok(Request::ListRange(range, texts_met(alloc, matches, "FILE")?)),
-        None => request_over(alloc, Action::List { wide }, matches),
-    }
-}
-
-/// The request to say what the programs of the decks need that clap met.
-fn needs_request<'a>(alloc: Global, matches: &ArgMatches<'a>) -> Result<Request<'a>, AllocError> {
-    let deck = is_flagged(matches, "deck");
-    request_over(alloc, Action::Needs { deck }, matches)
-}
-
-/// The request to explain the verdicts on the decks that clap met, or the offences at an address.
-fn why_request<'a>(alloc: Global, matches: &ArgMatches<'a>) -> Result<Request<'a>, AllocError> {
-    match text_met(matches, "of") {
-        Some(address) => Ok(Request::ExplainOffence(address, texts_met(alloc, matches, "FILE")?)),
-        None if is_flagged(matches, "all") => {
-            request_over(alloc, Action::Why(Explained::All), matches)
-        }
-        None => request_over(alloc, Action::Why(Explained::First), matches),
-    }
-}
-
-/// The request to do this with the decks that clap met.
-fn request_over<'a>(
-    alloc: Global,
-    action: Action,
-    matches: &ArgMatches<'a>,
-) -> Result<Request<'a>, AllocError> {
-    Ok(Request::Run(action, texts_met(alloc, matches, "FILE")?))
 }
 
 /// The words as clap reads them: a call for the help of `help` is one for help.
@@ -179,33 +182,54 @@ fn is_help_flag(word: &str) -> bool {
 }
 
 /// The answer to words that clap doesn't take, because it doesn't know a command.
-fn no_command<'a>(words: &'a [String], error: Error) -> Request<'a> {
+fn no_command<'a>(
+    alloc: Global,
+    words: &'a [String],
+    error: &Error,
+) -> Result<Request<'a>, AllocError> {
+    let usage = of_library(alloc, words, error)?;
     match words.get(1) {
-        Some(word) if word.as_str() != "help" => Request::NoCommand(word.as_str(), error),
-        _ => Request::Fault(error),
+        Some(word) if word.as_str() != "help" => {
+            let word = word.as_str();
+            Ok(Request::NoCommand(word, usage, of_file(alloc, word)?))
+        }
+        _ => Ok(Request::Usage(usage)),
+    }
+}
+
+/// The answer to words that clap doesn't take, or that ask for help or the version.
+fn not_taken<'a>(
+    alloc: Global,
+    words: &'a [String],
+    error: &Error,
+) -> Result<Request<'a>, AllocError> {
+    match error.kind() {
+        ErrorKind::OutOfMemory => Ok(Request::NoMemory),
+        ErrorKind::DisplayHelp | ErrorKind::DisplayVersion => {
+            Ok(Request::Print(error.to_string(alloc)?))
+        }
+        ErrorKind::InvalidSubcommand => no_command(alloc, words, error),
+        _ => Ok(Request::Usage(of_library(alloc, words, error)?)),
     }
 }
 
 /// Reads the words; the first is the program's name.
 ///
 /// Without a command the request is to verify, and `help --help` is `help`. Behind `explain`, flags
-/// that begin like an option are a word. If clap accepts the words, the answer is their request.
-/// Otherwise it is `Help`, `Version`, `NoCommand` or `Fault`, by the kind of fault that it finds.
-/// `NoMemory` may come in place of each.
+/// that begin like an option are a word. Where clap accepts the words, but not each option's text,
+/// the first fault is told, in the order of a deck's lines. `NoMemory` may come in place of each.
 #[inline(never)]
 pub fn read_request<'a>(alloc: Global, words: &'a [String]) -> Request<'a> {
-    let words = words_as_read(words);
+    request_for(alloc, words_as_read(words)).unwrap_or(Request::NoMemory)
+}
+
+/// The request of words as clap reads them.
+fn request_for<'a>(alloc: Global, words: &'a [String]) -> Result<Request<'a>, AllocError> {
     if let Some(flags) = flags_asked(words) {
-        return Request::ExplainFlags(flags);
+        return Ok(Request::Explain(vec![in alloc; flags]?));
     }
     match asked(alloc, words) {
-        Ok(request) => request,
-        Err(error) => match error.kind() {
-            ErrorKind::OutOfMemory => Request::NoMemory,
-            ErrorKind::DisplayHelp => Request::Help(error),
-            ErrorKind::DisplayVersion => Request::Version(error),
-            ErrorKind::InvalidSubcommand => no_command(words, error),
-            _ => Request::Fault(error),
-        },
+        Ok(request) => Ok(request),
+        Err(error) => not_taken(alloc, words, &error),
     }
 }

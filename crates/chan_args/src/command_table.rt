@@ -24,19 +24,30 @@ pub(crate) enum Given {
     Flag(&'static [&'static str]),
 }
 
-/// A word of a command, or an option: its name, how it is given, what help calls its value, and
-/// what help says of it.
-pub(crate) type Word = (&'static str, Given, &'static str, &'static str);
+/// A word of a command, or an option.
+#[derive(Clone, Copy)]
+pub(crate) struct Word {
+    name: &'static str,
+    given: Given,
+    /// What help calls its value.
+    value: &'static str,
+    /// What help says of it.
+    help: &'static str,
+}
 
-/// A command: its name, what help says of it, the text at the end of its help, its words and
-/// options, in the order of help, and its lines of `USAGE`, if it has options.
-pub(crate) type CommandRow = (
-    &'static str,
-    &'static str,
-    &'static str,
-    &'static [Word],
-    &'static str,
-);
+/// A command.
+pub(crate) struct CommandRow {
+    name: &'static str,
+    /// What help says of it.
+    about: &'static str,
+    /// Its lines of `USAGE`. From these rows `tests/commands.py` writes that constant, the synopsis
+    /// of the manual and the options of the completions.
+    usage: &'static str,
+    /// Its words and options, in the order of help.
+    words: &'static [Word],
+    /// The text at the end of its help.
+    after_help: &'static str,
+}
 
 /// The forms of a command line, for help and for a usage fault before any command.
 const USAGE: &str = "chanv verify [FILE]...
@@ -49,21 +60,6 @@ const USAGE: &str = "chanv verify [FILE]...
        chanv deck --start <ADDRESS> --extent <FIRST-LAST> [OPTIONS] [FILE]
        chanv explain [WORD]...
        chanv show [--name] <CCW>";
-
-// The lines of `USAGE` for the commands that have options. A text can't be put together of
-// constants, so each stands twice; the test `facts` compares them.
-const USAGE_OF_SHOW: &str = "chanv show [--name] <CCW>";
-
-const USAGE_OF_LIST: &str = "chanv list [--wide|--range <AREA>] [FILE]...";
-
-const USAGE_OF_WHY: &str = "chanv why [--all|--of <ADDRESS>] [FILE]...";
-
-const USAGE_OF_NEEDS: &str = "chanv needs [--deck] [FILE]...";
-
-const USAGE_OF_FIND: &str = "chanv find [OPTIONS] [FILE]...";
-
-const USAGE_OF_DECK: &str = "chanv deck --start <ADDRESS> <--least|--open> [OPTIONS] [FILE]
-       chanv deck --start <ADDRESS> --extent <FIRST-LAST> [OPTIONS] [FILE]";
 
 /// The end of the help of `show`.
 const OF_SHOW: &str = "With --name, CCW may have blanks and begin with 0x:
@@ -171,134 +167,134 @@ The exit status:
   4  the command line is wrong, or the image ends past --storage";
 
 // Words that several commands have.
-const DECKS: Word = (
-    "FILE",
-    Given::Repeated,
-    "",
-    "a deck; standard input if FILE is - or left out",
-);
+const DECKS: Word = Word {
+    name: "FILE",
+    given: Given::Repeated,
+    value: "",
+    help: "a deck; standard input if FILE is - or left out",
+};
 
-const ALL: Word = (
-    "all",
-    Given::Flag(&["of"]),
-    "",
-    "adds the cause to each line `also`",
-);
+const ALL: Word = Word {
+    name: "all",
+    given: Given::Flag(&["of"]),
+    value: "",
+    help: "adds the cause to each line `also`",
+};
 
-const OF: Word = (
-    "of",
-    Given::Valued,
-    "ADDRESS",
-    "explains the offence at this hexadecimal address instead",
-);
+const OF: Word = Word {
+    name: "of",
+    given: Given::Valued,
+    value: "ADDRESS",
+    help: "explains the offence at this hexadecimal address instead",
+};
 
-const WIDE: Word = (
-    "wide",
-    Given::Flag(&["range"]),
-    "",
-    "says what each CCW does, for people and not for scripts",
-);
+const WIDE: Word = Word {
+    name: "wide",
+    given: Given::Flag(&["range"]),
+    value: "",
+    help: "says what each CCW does, for people and not for scripts",
+};
 
-const RANGE: Word = (
-    "range",
-    Given::Valued,
-    "AREA",
-    "lists all of these bytes as CCWs, reached or not",
-);
+const RANGE: Word = Word {
+    name: "range",
+    given: Given::Valued,
+    value: "AREA",
+    help: "lists all of these bytes as CCWs, reached or not",
+};
 
-const AS_DECK: Word = (
-    "deck",
-    Given::Flag(&[]),
-    "",
-    "writes the deck that grants exactly this",
-);
+const AS_DECK: Word = Word {
+    name: "deck",
+    given: Given::Flag(&[]),
+    value: "",
+    help: "writes the deck that grants exactly this",
+};
 
-const DEVICE: Word = (
-    "device",
-    Given::Valued,
-    "NUMBER",
-    "2311 or 2314 (default 2314)",
-);
+const DEVICE: Word = Word {
+    name: "device",
+    given: Given::Valued,
+    value: "NUMBER",
+    help: "2311 or 2314 (default 2314)",
+};
 
-const AT: Word = (
-    "at",
-    Given::Valued,
-    "ADDRESS",
-    "hexadecimal address of its first byte (default 0)",
-);
+const AT: Word = Word {
+    name: "at",
+    given: Given::Valued,
+    value: "ADDRESS",
+    help: "hexadecimal address of its first byte (default 0)",
+};
 
-const STORAGE: Word = (
-    "storage",
-    Given::Valued,
-    "SIZE",
-    "hexadecimal size of storage (default: image's end)",
-);
+const STORAGE: Word = Word {
+    name: "storage",
+    given: Given::Valued,
+    value: "SIZE",
+    help: "hexadecimal size of storage (default: image's end)",
+};
 
-const IMAGE: Word = (
-    "FILE",
-    Given::Plain,
-    "",
-    "an image or a dump of storage; standard input if FILE is - or left out",
-);
+const IMAGE: Word = Word {
+    name: "FILE",
+    given: Given::Plain,
+    value: "",
+    help: "an image or a dump of storage; standard input if FILE is - or left out",
+};
 
-const IMAGES: Word = (
-    "FILE",
-    Given::Repeated,
-    "",
-    "an image or a dump of storage; standard input if FILE is - or left out",
-);
+const IMAGES: Word = Word {
+    name: "FILE",
+    given: Given::Repeated,
+    value: "",
+    help: "an image or a dump of storage; standard input if FILE is - or left out",
+};
 
 /// The options of a deck that is made of an image, and the image.
 const MAKING: &[Word] = &[
     DEVICE,
-    (
-        "mask",
-        Given::Valued,
-        "BYTE",
-        "hexadecimal file mask (default 00)",
-    ),
-    (
-        "start",
-        Given::RequiredValued,
-        "ADDRESS",
-        "hexadecimal address of the first CCW",
-    ),
-    (
-        "limit",
-        Given::Valued,
-        "PLACES",
-        "how many places may be reachable (default 4096)",
-    ),
-    (
-        "extent",
-        Given::RequiredWithout(&["least", "open"]),
-        "FIRST-LAST",
-        "decimal cylinders; needed unless --least or --open",
-    ),
-    (
-        "fetch",
-        Given::RepeatedValued,
-        "AREA",
-        "hexadecimal area lent for fetching",
-    ),
-    (
-        "store",
-        Given::RepeatedValued,
-        "AREA",
-        "hexadecimal area lent for storing",
-    ),
-    (
-        "least",
-        Given::Flag(&["open", "mask", "extent", "fetch", "store"]),
-        "",
-        "grants exactly what the program needs",
-    ),
-    (
-        "open",
-        Given::Flag(&["mask", "extent", "fetch", "store"]),
-        "",
-        "grants everything",
-    ),
+    Word {
+        name: "mask",
+        given: Given::Valued,
+        value: "BYTE",
+        help: "hexadecimal file mask (default 00)",
+    },
+    Word {
+        name: "start",
+        given: Given::RequiredValued,
+        value: "ADDRESS",
+        help: "hexadecimal address of the first CCW",
+    },
+    Word {
+        name: "limit",
+        given: Given::Valued,
+        value: "PLACES",
+        help: "how many places may be reachable (default 4096)",
+    },
+    Word {
+        name: "extent",
+        given: Given::RequiredWithout(&["least", "open"]),
+        value: "FIRST-LAST",
+        help: "decimal cylinders; needed unless --least or --open",
+    },
+    Word {
+        name: "fetch",
+        given: Given::RepeatedValued,
+        value: "AREA",
+        help: "hexadecimal area lent for fetching",
+    },
+    Word {
+        name: "store",
+        given: Given::RepeatedValued,
+        value: "AREA",
+        help: "hexadecimal area lent for storing",
+    },
+    Word {
+        name: "least",
+        given: Given::Flag(&["open", "mask", "extent", "fetch", "store"]),
+        value: "",
+        help: "grants exactly what the program needs",
+    },
+    Word {
+        name: "open",
+        given: Given::Flag(&["mask", "extent", "fetch", "store"]),
+        value: "",
+        help: "grants everything",
+    },
     AT,
     STORAGE,
     IMAGE,
@@ -307,12 +303,12 @@ const MAKING: &[Word] = &[
 /// The options of a search for programs in images, and the images.
 const SEARCHING: &[Word] = &[
     DEVICE,
-    (
-        "limit",
-        Given::Valued,
-        "PLACES",
-        "how many places may be reachable (default 4096)",
-    ),
+    Word {
+        name: "limit",
+        given: Given::Valued,
+        value: "PLACES",
+        help: "how many places may be reachable (default 4096)",
+    },
     AT,
     STORAGE,
     IMAGES,
@@ -320,85 +316,91 @@ const SEARCHING: &[Word] = &[
 
 /// The CCW that is shown, and how.
 const SHOWING: &[Word] = &[
-    (
-        "CCW",
-        Given::RequiredRepeated,
-        "",
-        "sixteen hexadecimal digits, or twice eight",
-    ),
-    ("name", Given::Flag(&[]), "", "adds the name of the command"),
+    Word {
+        name: "CCW",
+        given: Given::RequiredRepeated,
+        value: "",
+        help: "sixteen hexadecimal digits, or twice eight",
+    },
+    Word {
+        name: "name",
+        given: Given::Flag(&[]),
+        value: "",
+        help: "adds the name of the command",
+    },
 ];
 
 /// The commands, in the order of help.
 pub(crate) const COMMANDS: &[CommandRow] = &[
-    (
-        "verify",
-        "judges decks: may the program run? chanv alone judges standard input",
-        OF_VERIFY,
-        &[DECKS],
-        "",
-    ),
-    (
-        "list",
-        "lists the CCWs that the program can reach, and the verdict",
-        OF_LIST,
-        &[DECKS, WIDE, RANGE],
-        USAGE_OF_LIST,
-    ),
-    (
-        "why",
-        "explains each verdict: the path to the offending CCW, and the cause",
-        OF_WHY,
-        &[DECKS, ALL, OF],
-        USAGE_OF_WHY,
-    ),
-    (
-        "needs",
-        "lists what a job must grant, and the bytes that must not change",
-        OF_NEEDS,
-        &[DECKS, AS_DECK],
-        USAGE_OF_NEEDS,
-    ),
-    (
-        "graph",
-        "draws the program of each deck for Graphviz",
-        OF_GRAPH,
-        &[DECKS],
-        "",
-    ),
-    (
-        "find",
-        "finds programs in images of storage, and judges each",
-        OF_FIND,
-        SEARCHING,
-        USAGE_OF_FIND,
-    ),
-    (
-        "deck",
-        "turns an image of storage into a deck",
-        OF_DECK,
-        MAKING,
-        USAGE_OF_DECK,
-    ),
-    (
-        "explain",
-        "explains a word of the output; without WORD, lists all words",
-        "",
-        &[(
-            "WORD",
-            Given::Repeated,
-            "",
-            "a word of the output, such as changes-ccw, 07 or mask 98",
-        )],
-        "",
-    ),
-    (
-        "show",
-        "prints a channel command word (CCW)",
-        OF_SHOW,
-        SHOWING,
-        USAGE_OF_SHOW,
-    ),
+    CommandRow {
+        name: "verify",
+        about: "judges decks: may the program run? chanv alone judges standard input",
+        usage: "chanv verify [FILE]...",
+        words: &[DECKS],
+        after_help: OF_VERIFY,
+    },
+    CommandRow {
+        name: "list",
+        about: "lists the CCWs that the program can reach, and the verdict",
+        usage: "chanv list [--wide|--range <AREA>] [FILE]...",
+        words: &[DECKS, WIDE, RANGE],
+        after_help: OF_LIST,
+    },
+    CommandRow {
+        name: "why",
+        about: "explains each verdict: the path to the offending CCW, and the cause",
+        usage: "chanv why [--all|--of <ADDRESS>] [FILE]...",
+        words: &[DECKS, ALL, OF],
+        after_help: OF_WHY,
+    },
+    CommandRow {
+        name: "needs",
+        about: "lists what a job must grant, and the bytes that must not change",
+        usage: "chanv needs [--deck] [FILE]...",
+        words: &[DECKS, AS_DECK],
+        after_help: OF_NEEDS,
+    },
+    CommandRow {
+        name: "graph",
+        about: "draws the program of each deck for Graphviz",
+        usage: "chanv graph [FILE]...",
+        words: &[DECKS],
+        after_help: OF_GRAPH,
+    },
+    CommandRow {
+        name: "find",
+        about: "finds programs in images of storage, and judges each",
+        usage: "chanv find [OPTIONS] [FILE]...",
+        words: SEARCHING,
+        after_help: OF_FIND,
+    },
+    CommandRow {
+        name: "deck",
+        about: "turns an image of storage into a deck",
+        usage: "chanv deck --start <ADDRESS> <--least|--open> [OPTIONS] [FILE]
+       chanv deck --start <ADDRESS> --extent <FIRST-LAST> [OPTIONS] [FILE]",
+        words: MAKING,
+        after_help: OF_DECK,
+    },
+    CommandRow {
+        name: "explain",
+        about: "explains a word of the output; without WORD, lists all words",
+        usage: "chanv explain [WORD]...",
+        words: &[Word {
+            name: "WORD",
+            given: Given::Repeated,
+            value: "",
+            help: "a word of the output, such as changes-ccw, 07 or mask 98",
+        }],
+        after_help: "",
+    },
+    CommandRow {
+        name: "show",
+        about: "prints a channel command word (CCW)",
+        usage: "chanv show [--name] <CCW>",
+        words: SHOWING,
+        after_help: OF_SHOW,
+    },
 ];
 
 /// The command line that the program takes. It isn't inlined, and nor is `row_command`, so that
@@ -442,7 +444,7 @@ fn with_command<'a>(
 #[inline(never)]
 fn row_command<'a>(alloc: Global, row: &CommandRow) -> Result<Command<'a>, AllocError> {
     let mut command = Ok(titled(alloc, row));
-    for word in row.3 {
+    for word in row.words {
         command = with_word(alloc, command, word);
     }
     command
@@ -450,13 +452,13 @@ fn row_command<'a>(alloc: Global, row: &CommandRow) -> Result<Command<'a>, Alloc
 
 /// The command of a row without words.
 fn titled<'a>(alloc: Global, row: &CommandRow) -> Command<'a> {
-    let (name, about, after_help, _, usage) = *row;
-    let mut command = Command::new(alloc, name).about(about);
-    if !after_help.is_empty() {
-        command = command.after_help(after_help);
+    let mut command = Command::new(alloc, row.name).about(row.about);
+    // without options, clap words the usage by what was given
+    if row.words.len() > 1 {
+        command = command.override_usage(row.usage);
     }
-    if !usage.is_empty() {
-        command = command.override_usage(usage);
+    if !row.after_help.is_empty() {
+        command = command.after_help(row.after_help);
     }
     command
 }
@@ -472,7 +474,12 @@ fn with_word<'a>(
 
 /// The argument of a word.
 fn arg_of<'a>(alloc: Global, word: &Word) -> Result<Arg<'a>, AllocError> {
-    let (name, given, value, help) = *word;
+    let Word {
+        name,
+        given,
+        value,
+        help,
+    } = *word;
     let arg = Arg::new(alloc, name).help(help);
     match given {
         Given::Plain => Ok(arg),

@@ -1,6 +1,5 @@
-//! What the words of a command line ask for, as `clap` reads them.
-//!
-//! The texts of options stay texts: what they say is read in `chan_run`.
+//! The command line: from its words to a request, with the values of its options, or to the text of
+//! the usage fault.
 //!
 //! ```
 //! fn files<'a>(alloc: Global, words: &'a [String]) -> Option<Vec<&'a str>> {
@@ -13,13 +12,19 @@
 #![tactic(auto)]
 
 mod action;
+mod bases;
 mod command_line;
 mod command_table;
-mod image_command;
-mod image_words;
-mod words_met;
+mod image_options;
+mod image_request;
+mod met;
+mod option_text;
+mod shown;
+mod usage_fault;
+mod valued_option;
 
-pub use crate::action::{Action, Explained};
-pub use crate::command_line::{Request, read_request};
-pub use crate::image_command::ImageRequest;
-pub use crate::image_words::{ImageOption, ImageWords, RequestedJob};
+pub use crate::action::{Action, Asked};
+pub use crate::command_line::{Request, Task, read_request};
+pub use crate::image_options::{ImageOptions, RequestedJob};
+pub use crate::image_request::ImageRequest;
+pub use crate::shown::shown_word;

@@ -3,7 +3,7 @@
 use crate::dump_line::{Fault, Front, HIGH, Spelled, front_of};
 use crate::hint::{BYTE_ORDER_MARK, SHOWN, push_caret_at, push_shown};
 use crate::image_note::is_deck;
-use crate::texts::Range;
+use crate::verdict_line::Range;
 use ccw_core::{Area, STORAGE_LIMIT};
 use std::alloc::{AllocError, Global};
 use std::fmt::Write as _;
@@ -84,6 +84,7 @@ pub fn read_dump(alloc: Global, text: &[u8]) -> Result<Option<Dump>, DumpError> 
         return Ok(None);
     }
     for (number, line) in (1..u64::MAX).zip(text.split(is_line_feed)) {
+        let line = line.trim_ascii_end();
         match reading.read_line(line, number) {
             Ok(()) => {}
             Err(Fault::Memory) => return Err(DumpError::Memory),
@@ -113,7 +114,7 @@ fn refusal(
 ) -> Result<String, AllocError> {
     let mut out = format!(in alloc; "dump line {number}: {why}\nfound ")?;
     let room = column.saturating_add(SHOWN_AFTER).clamp(SHOWN, MOST_SHOWN);
-    push_shown(&mut out, line.trim_ascii_end(), room)?;
+    push_shown(&mut out, line, room)?;
     out.push('\n')?;
     if column < room {
         push_caret_at(&mut out, line, column)?;
@@ -169,6 +170,7 @@ impl Reading {
     /// bytes. The first tells whether addresses are octal.
     fn is_begun(&mut self, text: &[u8]) -> Result<bool, AllocError> {
         for line in text.split(is_line_feed) {
+            let line = line.trim_ascii_end();
             let Some(front) = front_of(line) else {
                 continue;
             };

@@ -140,7 +140,7 @@ impl Front<'_> {
                     high = None;
                 }
                 (None, Some(_)) => return Err(Fault::At(HALF, column.saturating_sub(1))),
-                (None, None) if ends_before(&line[column..], bytes.as_slice()) => return Ok(()),
+                (None, None) if ends_at(line, column, bytes.as_slice()) => return Ok(()),
                 (None, None) if line[column].is_ascii_whitespace() => {}
                 (None, None) => return Err(Fault::At(DIGIT, column)),
             }
@@ -177,11 +177,15 @@ fn is_octal_digit(digit: &u8) -> bool {
     matches!(*digit, b'0'..=b'7')
 }
 
-/// Whether the bytes of a line end before what is left of it.
-fn ends_before(rest: &[u8], bytes: &[Spelled]) -> bool {
+/// Whether the bytes of a line end at a column. Blanks after the first of a run aren't asked again,
+/// since a text column begins with all blanks before it.
+fn ends_at(line: &[u8], column: usize, bytes: &[Spelled]) -> bool {
+    let before = line.get(..column).unwrap_or(line);
+    let rest = line.get(column..).unwrap_or(&[]);
     let is_marked = rest.first().is_some_and(|byte| MARKS.contains(byte));
     let is_short = rest.len() <= LONGEST_TEXT && bytes.len() <= LONGEST_TEXT;
-    is_marked || is_short && rest.starts_with(b"  ") && is_text_of(rest, bytes)
+    let is_asked = before.last().is_some_and(|byte| byte.is_ascii_whitespace());
+    is_marked || is_short && !is_asked && rest.starts_with(b"  ") && is_text_of(rest, bytes)
 }
 
 /// Whether what is left of a line is two blanks or more and then the text of its bytes, of which

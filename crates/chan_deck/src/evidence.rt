@@ -1,6 +1,6 @@
 //! What the line `because` says of an offence, which tests hold.
 
-use crate::texts::Range;
+use crate::verdict_line::Range;
 use ccw_core::Area;
 use chan_walk::{Evidence, GivenBytes, Outside};
 use ckd_core::{Command, FileMask, LAST_CYLINDER, further_name, lookup};

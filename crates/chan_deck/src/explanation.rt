@@ -3,13 +3,16 @@
 ghost use Rattle.std.specs.Prelude.{◌≡◌, ◌++◌, string_bytes, IfOk, OnOk};
 ghost use Rattle.chan_deck.specs.Explanation as texts;
 ghost use Rattle.chan_deck.specs.Explanation.{AddsText, ArePathRows, AreSecondRows, IsPathRow};
-ghost use Rattle.chan_deck.specs.Explanation.{IsExplanationText, IsOffenceText, IsWitnessText};
+ghost use Rattle.chan_deck.specs.Explanation.{IsExplained, IsExplanationText, IsOffenceText};
+ghost use Rattle.chan_deck.specs.Explanation.{IsWitnessText};
+ghost use Rattle.chan_walk.specs.Offence.{first_verdict};
+ghost use Rattle.chan_why.specs.Findings.{AreFindings};
 
 use crate::evidence::push_evidence;
 use crate::listing::{push_words, standing_at};
-use crate::texts::{Digits, verdict_text};
+use crate::verdict_line::{Digits, verdict_text};
 use chan_walk::{Evidence, Job, Offence, Place, Setting, Survey, Verdict, setting_at};
-use chan_why::Witness;
+use chan_why::{Findings, Witness};
 use ckd_core::Track;
 use std::alloc::{AllocError, Global};
 use std::fmt::Write as _;
@@ -150,7 +153,7 @@ fn push_witness(
 ///
 /// The rows show the CCWs in the job's storage, whether or not the witness is the job's. A row at
 /// which a seek, Recalibrate or Set File Mask begins says at its end what it sets.
-pub fn offence_text(
+fn offence_text(
     alloc: Global,
     job: &Job,
     verdict: Verdict,
@@ -184,4 +187,24 @@ pub fn explanation_text(
     let others = others_text(alloc, offences, evidence)?;
     text.push_str(others.as_str())?;
     Ok(text)
+}
+
+/// The explanation of what was found: that of the offence that is asked about, if one is there, and
+/// else that of the verdict, with the cause of each other offence if it is wanted. An error means
+/// that an allocation failed.
+pub fn why_text(alloc: Global, findings: &Findings, has_causes: bool) -> Result<String, AllocError>
+    requires { AreFindings findings.now }
+    ensures { IfOk result (λ t. IsExplained findings.now.asked findings.now.job.now
+        (first_verdict findings.now.survey.offences) (string_bytes t)) }
+{
+    let (job, survey) = (findings.job, &findings.survey);
+    if let Some(_offence) = findings.requested {
+        return offence_text(alloc, job, survey.verdict(), &findings.witness);
+    }
+    let causes = if has_causes {
+        findings.evidence.as_slice()
+    } else {
+        &[]
+    };
+    explanation_text(alloc, job, survey, &findings.witness, causes)
 }

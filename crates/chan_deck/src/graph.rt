@@ -4,20 +4,23 @@
 ghost use Rattle.std.specs.Prelude.{◌≡◌, ◌++◌, codes, option_map, string_bytes, IfOk, OnOk};
 ghost use Rattle.chan_deck.specs.Graph.{IsPictureOf, escaped, escaped_byte, titled};
 ghost use Rattle.chan_deck.specs.VerdictLine.{verdict_words};
+ghost use Rattle.chan_walk.specs.Offence.{first_verdict};
+ghost use Rattle.chan_why.specs.Findings.{AreFindings};
 
 use crate::deed::{Shown, push_amount, push_reported};
 use crate::evidence::push_evidence;
 use crate::explanation::push_setting;
-use crate::layout::{
+use crate::listing::{name_of, transfer_word, way_word};
+use crate::notes::notes_on;
+use crate::picture_layout::{
     Arrow, Layout, MOST_ROWS, Row, Scene, arrow_to, first_row, indices_at, is_left_out_of,
     layout_of, row_at, shown_of,
 };
-use crate::listing::{name_of, transfer_word, way_word};
-use crate::texts::{Range, push_verdict};
+use crate::verdict_line::{Range, push_verdict};
 use chan_walk::{
     Direction, Entry, Evidence, Job, Look, Offence, Place, Verdict, data_of, first_place,
 };
-use chan_why::can_end;
+use chan_why::{Findings, can_end};
 use ckd_core::{Device, Kind};
 use std::alloc::{AllocError, Global};
 use std::fmt;
@@ -38,21 +41,21 @@ const STYLES: &str = "  node [shape=plain, fontname=\"monospace\", fontsize=10];
 
 /// A program that was judged, as it is drawn.
 #[derive(Clone, Copy)]
-pub struct Picture<'a> {
+pub(crate) struct Picture<'a> {
     /// The name of its deck in ASCII, which begins the title; none for standard input.
-    pub name: Option<&'a str>,
-    pub job: &'a Job<'a>,
-    pub verdict: Verdict,
+    name: Option<&'a str>,
+    job: &'a Job<'a>,
+    verdict: Verdict,
     /// The looks at its places, and its offences, as `Survey::into_parts` gives them.
-    pub looks: &'a [Look],
-    pub offences: &'a [Offence],
+    looks: &'a [Look],
+    offences: &'a [Offence],
     /// The cause of each offence.
-    pub causes: &'a [Evidence],
+    causes: &'a [Evidence],
     /// The last place of the path to the verdict's place that stores over what stands there, as its
     /// witness tells.
-    pub stored_over: Option<Place>,
+    stored_over: Option<Place>,
     /// The notes on the job, a line each; lines that don't begin with `note: ` are left out.
-    pub notes: &'a str,
+    notes: &'a str,
 }
 
 /// A place as the name of its node.
@@ -643,7 +646,7 @@ fn push_arrows(
     Ok(())
 }
 
-/// The picture of a program that was judged, in Graphviz's language. An error means that an
+/// The picture of what was found of a program, in Graphviz's language. An error means that an
 /// allocation failed.
 ///
 /// CCWs stand in boxes, a row each; those behind each other to which no other way leads share one.
@@ -651,7 +654,40 @@ fn push_arrows(
 /// place that offends is alone in a pink box, with its reasons and their causes; after a yes, boxes
 /// from which the program never ends by itself are yellow. A dashed arrow is taken if a search
 /// finds, and a dotted one leads from a row to the row that it stores over.
-pub fn graph_text(alloc: Global, picture: &Picture) -> Result<String, AllocError>
+pub fn graph_text(
+    alloc: Global,
+    name: Option<&str>,
+    findings: Findings,
+) -> Result<String, AllocError>
+    requires { AreFindings findings }
+    ensures { IfOk result (λ text. IsPictureOf (option_map (λ n. n.now) name.entry)
+        (first_verdict findings.entry.survey.offences) (string_bytes text)) }
+{
+    let notes = notes_on(alloc, &findings)?;
+    let Findings {
+        job,
+        survey,
+        witness,
+        evidence,
+        ..
+    } = findings;
+    let verdict = survey.verdict();
+    let (looks, offences) = survey.into_parts();
+    let picture = Picture {
+        name,
+        job,
+        verdict,
+        looks: &looks,
+        offences: &offences,
+        causes: &evidence,
+        stored_over: witness.stored_over,
+        notes: notes.as_str(),
+    };
+    picture_text(alloc, &picture)
+}
+
+/// The text of a picture.
+fn picture_text(alloc: Global, picture: &Picture) -> Result<String, AllocError>
     ensures { IfOk result (λ text. IsPictureOf (option_map (λ n. n.now) picture.now.name)
         picture.now.verdict (string_bytes text)) }
 {

@@ -1,8 +1,8 @@
 //! How to cure a no: the lines of help after its explanation. Tests hold the texts.
 
 use ccw_core::Area;
-use chan_walk::{Entry, Evidence, Job, Outside, Place, Reason, Survey};
-use chan_why::Witness;
+use chan_walk::{Entry, Evidence, Job, Outside, Place, Survey};
+use chan_why::{Findings, Witness};
 use ckd_core::{Command, Device, FileMask, Kind, lookup};
 use std::alloc::{AllocError, Global};
 use std::fmt::Write as _;
@@ -10,19 +10,16 @@ use std::fmt::Write as _;
 /// The begin of the help on data that is stored over what may not change.
 const ELSEWHERE: &str = "help: store the data elsewhere, so that ";
 
-/// The lines of help on an offence with this witness and this reason: the line of a deck that cures
-/// it, or what to change in the program, and which word to look up. An error means that an
+/// The lines of help on the offence that is explained, if there is one: the line of a deck that
+/// cures it, or what to change in the program, and which word to look up. An error means that an
 /// allocation failed.
-pub fn help_text(
-    alloc: Global,
-    job: &Job,
-    witness: &Witness,
-    reason: Reason,
-) -> Result<String, AllocError> {
+pub(crate) fn help_text(alloc: Global, findings: &Findings) -> Result<String, AllocError> {
     let mut text = String::new(alloc);
-    push_cure(&mut text, job, witness)?;
-    let word = reason.word();
-    write!(text, "help: chanv explain {word}\n")?;
+    if let Some(offence) = findings.offence() {
+        push_cure(&mut text, findings.job, &findings.witness)?;
+        let word = offence.reason.word();
+        write!(text, "help: chanv explain {word}\n")?;
+    }
     Ok(text)
 }
 
@@ -160,7 +157,7 @@ fn searches(place: Place, code: u8) -> bool {
 
 /// The note on a no beside which CCWs weren't looked at, because a CCW that leads to them has a
 /// fault. A transfer leads on whatever its flags, which the channel ignores.
-pub fn unseen_note(survey: &Survey) -> &'static str {
+pub(crate) fn unseen_note(survey: &Survey) -> &'static str {
     for look in survey.looks() {
         if let (Some(_), Some(ccw)) = (look.fault(), look.ccw()) {
             if ccw.is_transfer() || ccw.chains_data() || ccw.chains_command() {

@@ -8,10 +8,10 @@ ghost use Rattle.chan_deck.specs.Item.{device, header, limit, mask, put, said_by
 ghost use Rattle.chan_deck.specs.Item as item;
 ghost use Rattle.chan_deck.specs.declared.version.VersionNumber.{VersionNumber};
 
-use crate::digits::{address_of, byte_of, cylinder_of, places_of, size_of, word_of};
-use crate::spelling::{
+use crate::deck_digits::{
     address_digits, area_digits, cylinder_digits, limit_digits, size_digits, word_digits,
 };
+use crate::digits::{address_of, byte_of, cylinder_of, places_of, size_of, word_of};
 use crate::version::VersionNumber;
 use ccw_core::{Area, digits_of};
 use ckd_core::Device;

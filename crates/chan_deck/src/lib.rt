@@ -12,9 +12,11 @@
 //! ```
 #![tactic(auto)]
 
+mod advice;
 mod beginning;
 mod cause;
 mod deck;
+mod deck_digits;
 mod deed;
 mod digits;
 mod dump;
@@ -30,48 +32,44 @@ mod image_note;
 mod item;
 mod keyword;
 mod laws;
-mod layout;
 mod lines;
 mod listing;
 mod lists;
+mod named_word;
 mod needs;
 mod notes;
 mod parts;
+mod picture_layout;
 mod ranged;
 mod reading;
 mod shape;
-mod spelled;
-mod spelling;
 mod storage;
-mod texts;
+mod verdict_line;
 mod version;
 mod wide;
 mod words;
 mod writing;
 mod wrong_image;
 
+pub use crate::advice::{image_advice, needs_advice, why_advice};
 pub use crate::beginning::image_notes;
 pub use crate::cause::Cause;
 pub use crate::deck::Deck;
 pub use crate::dump::{Dump, DumpError, is_text, read_dump};
 pub use crate::error::DeckError;
-pub use crate::explanation::{explanation_text, offence_text};
-pub use crate::graph::{Picture, graph_text};
-pub use crate::help::{help_text, unseen_note};
+pub use crate::explanation::{explanation_text, why_text};
+pub use crate::graph::graph_text;
 pub use crate::hint::hint_text;
 pub use crate::image_note::{deck_note, find_note};
 pub use crate::listing::{ListError, ccw_line, listing_text, row_text, write_listing};
+pub use crate::named_word::spelled_text;
 pub use crate::needs::{in_six_digits, needs_text};
-pub use crate::notes::{
-    absent_note, behind_note, exchange_note, limit_note, notes_text, room_note,
-};
+pub use crate::notes::{limit_note, room_note};
 pub use crate::parts::{Parts, parts_text, place_image};
 pub use crate::ranged::range_text;
 pub use crate::reading::read_deck;
 pub use crate::shape::shape_of;
-pub use crate::spelled::spelled_text;
-pub use crate::texts::{program_text, unjudged_text, verdict_text};
+pub use crate::verdict_line::{program_text, unjudged_text, verdict_text};
 pub use crate::wide::wide_listing;
 pub use crate::words::{WORDS_AT_LENGTH, WORDS_IN_SHORT, nearest_word, word_row};
 pub use crate::writing::write_deck;
-pub use crate::wrong_image::no_job_notes;

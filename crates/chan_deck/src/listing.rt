@@ -9,7 +9,7 @@ ghost use Rattle.ccw_core.specs.Storage.{ccw_at};
 ghost use Rattle.chan_deck.specs.Listing as list;
 ghost use Rattle.chan_walk.specs.Job.{storage_of};
 
-use crate::texts::{push_address, push_verdict, verdict_text};
+use crate::verdict_line::{push_address, push_verdict, verdict_text};
 use ccw_core::{Ccw, DeviceFault, Watched, write_out};
 use chan_walk::{Entry, Explored, Job, Look, Place, Verdict};
 use ckd_core::{Command, lookup};

@@ -7,8 +7,8 @@ ghost use Rattle.chan_needs.specs.Listed.{listed, pair};
 ghost use Rattle.chan_deck.specs.Item.{text};
 ghost use Rattle.chan_deck.specs.Needs as texts;
 
+use crate::deck_digits::area_digits;
 use crate::item::Item;
-use crate::spelling::area_digits;
 use crate::writing::{write_extents, write_fetch, write_store};
 use ccw_core::{Area, STORAGE_LIMIT};
 use chan_needs::{Needs, pairs_of};

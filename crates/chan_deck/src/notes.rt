@@ -1,9 +1,10 @@
 //! The notes on a job as text, which tests hold.
 
+use crate::help::unseen_note;
 use crate::listing::way_word;
 use ccw_core::{Area, Storage};
-use chan_walk::{Entry, Job, Limit, Look, Place, Reason, look_at};
-use chan_why::Notes;
+use chan_walk::{Entry, Job, Limit, Look, Place, Reason, Verdict, look_at};
+use chan_why::{Findings, Notes, seems_exchanged};
 use std::alloc::{AllocError, Global};
 use std::fmt::Write;
 
@@ -125,7 +126,7 @@ fn push_spare(out: &mut String, storage: Storage<'_>, addresses: &[u32]) -> Resu
 /// Each kind has a line for each of its first hundred notes, and one line that counts the others.
 /// Areas that adjoin share a note. Without any note the text is empty. An error means that an
 /// allocation failed.
-pub fn notes_text(
+fn notes_text(
     alloc: Global,
     storage: Storage<'_>,
     notes: &Notes,
@@ -157,7 +158,7 @@ pub(crate) fn storage_note(alloc: Global, size: u32) -> Result<String, AllocErro
 
 /// The note that areas seem exchanged, for a verdict with this reason: what isn't lent one way is
 /// lent the other way. For other reasons the text is empty.
-pub fn exchange_note(reason: Reason) -> &'static str {
+fn exchange_note(reason: Reason) -> &'static str {
     match reason {
         Reason::FetchNotLent => LENT_FOR_STORING,
         Reason::StoreNotLent => LENT_FOR_FETCHING,
@@ -182,13 +183,24 @@ pub fn room_note(alloc: Global, at: u32, size: u32) -> Result<String, AllocError
 /// The note on what stands right behind the last of a program's CCWs, if it looks like a CCW to
 /// which no run comes: a well-formed one of a known command, or a transfer into the program. An
 /// error means that an allocation failed.
-pub fn behind_note(alloc: Global, job: &Job, looks: &[Look]) -> Result<String, AllocError> {
+fn behind_note(alloc: Global, job: &Job, looks: &[Look]) -> Result<String, AllocError> {
     let last = looks.iter().map(|look| look.place().address).max();
     let address = last.unwrap_or(0).saturating_add(8);
     if !is_like_ccw(job, looks, address) {
         return Ok(String::new(alloc));
     }
     format!(in alloc; "note: {address:06X} looks like a CCW, but no run comes there\n")
+}
+
+/// Looks at a place as if nothing were lent. It serves to ask about the reasons that come before
+/// those about lent areas, and costs nothing for the areas.
+pub(crate) fn look_without_areas(job: &Job, place: Place) -> Look {
+    let granting_none = Job {
+        fetch: &[],
+        store: &[],
+        ..*job
+    };
+    look_at(&granting_none, place)
 }
 
 /// Whether what stands at an address looks like a CCW of a program.
@@ -198,7 +210,7 @@ fn is_like_ccw(job: &Job, looks: &[Look], address: u32) -> bool {
         entered: Entry::Fresh,
         after_transfer: false,
     };
-    let look = look_at(job, place);
+    let look = look_without_areas(job, place);
     let is_well_formed = look.fault().is_none_or(|fault| fault.reason().number()
         > Reason::NotInTable.number());
     match look.ccw() {
@@ -210,9 +222,46 @@ fn is_like_ccw(job: &Job, looks: &[Look], address: u32) -> bool {
     }
 }
 
-/// The note that no offence is at an address. An error means that an allocation failed.
-pub fn absent_note(alloc: Global, address: u32) -> Result<String, AllocError> {
-    format!(in alloc; "note: no offence at {address:06X}\n")
+/// The note that no offence is at the address that is asked about, if that is so. An error means
+/// that an allocation failed.
+pub(crate) fn absent_note(alloc: Global, findings: &Findings) -> Result<String, AllocError> {
+    match findings.asked {
+        Some(address) if findings.requested.is_none() => {
+            format!(in alloc; "note: no offence at {address:06X}\n")
+        }
+        _ => Ok(String::new(alloc)),
+    }
+}
+
+/// The notes on what was found: what a yes leaves open; of a no, that the areas seem exchanged, if
+/// they do, and that some CCWs weren't looked at. An error means that an allocation failed.
+pub(crate) fn notes_on(alloc: Global, findings: &Findings) -> Result<String, AllocError> {
+    let (job, survey) = (findings.job, &findings.survey);
+    let (first, second) = match (survey.verdict(), &findings.open) {
+        (Verdict::No { reason, .. }, _) => {
+            let is_exchanged = !is_chained_over(findings)
+                && seems_exchanged(alloc, job, survey.verdict())?;
+            let exchange = if is_exchanged {
+                exchange_note(reason)
+            } else {
+                ""
+            };
+            let unseen = unseen_note(survey);
+            return format!(in alloc; "{exchange}{unseen}");
+        }
+        (Verdict::Yes, Some(open)) => (
+            notes_text(alloc, job.storage, &open.notes, open.hang)?,
+            behind_note(alloc, job, survey.looks())?,
+        ),
+        (Verdict::Yes, None) => return Err(AllocError),
+    };
+    format!(in alloc; "{first}{second}")
+}
+
+/// Whether the first offence is at a place that a data chain enters by a transfer.
+fn is_chained_over(findings: &Findings) -> bool {
+    let place = findings.survey.offences().first().map(|first| first.place);
+    place.is_some_and(|place| place.entered != Entry::Fresh && place.after_transfer)
 }
 
 /// What the limit on places is, and how it may be raised. An error means that an allocation failed.

@@ -4,9 +4,10 @@
 use crate::evidence::push_evidence;
 use crate::explanation::push_setting;
 use crate::listing::push_words;
-use crate::texts::push_verdict;
+use crate::notes::look_without_areas;
+use crate::verdict_line::push_verdict;
 use ccw_core::Area;
-use chan_walk::{Entry, Evidence, Job, Look, Place, Verdict, look_at, setting_at};
+use chan_walk::{Entry, Evidence, Job, Lent, Look, Place, Verdict, look_among, setting_at};
 use ckd_core::Kind;
 use std::alloc::{AllocError, Global};
 
@@ -14,8 +15,7 @@ use std::alloc::{AllocError, Global};
 /// doubleword that has a byte in the range, up to the end of storage. Where one chains data, the
 /// next counts as a part of its chain; any other counts as a CCW that begins an operation. The row
 /// of a CCW with a fault of its own is marked, and its cause follows; so is that of a transfer that
-/// leads to where no CCW can be. An error means that an
-/// allocation failed.
+/// leads to where no CCW can be. An error means that an allocation failed.
 pub fn range_text(
     alloc: Global,
     job: &Job,
@@ -24,6 +24,7 @@ pub fn range_text(
 ) -> Result<String, AllocError> {
     let mut text = String::new(alloc);
     let end = range.start.saturating_add(range.len).min(job.storage.len());
+    let lent = Lent::new(alloc, job)?;
     let mut entered = Entry::Fresh;
     for number in range.start / 8..end.div_ceil(8) {
         let place = Place {
@@ -31,7 +32,7 @@ pub fn range_text(
             entered,
             after_transfer: false,
         };
-        let look = look_at(job, place);
+        let look = look_among(job, &lent, place);
         push_look(alloc, &mut text, job, &look)?;
         entered = entry_behind(&look);
     }
@@ -65,7 +66,7 @@ fn fault_behind(job: &Job, look: &Look) -> Option<Evidence> {
     if !look.ccw()?.is_transfer() {
         return None;
     }
-    match look_at(job, look.next().next?).fault() {
+    match look_without_areas(job, look.next().next?).fault() {
         Some(
             fault @ (Evidence::Misaligned { .. }
             | Evidence::OutsideStorage { .. }

@@ -6,9 +6,9 @@ ghost use Rattle.chan_deck.specs.Listing.{IsWideListing};
 
 use crate::deed::{Shown, push_amount, push_part, push_reported};
 use crate::graph::{name_at, verb_at};
-use crate::layout::{Scene, first_twin, indices_at, row_at};
 use crate::listing::way_word;
-use crate::texts::{Range, push_address, push_verdict};
+use crate::picture_layout::{Scene, first_twin, indices_at, row_at};
+use crate::verdict_line::{Range, push_address, push_verdict};
 use ccw_core::Ccw;
 use chan_walk::{Entry, Job, Look, Offence, Place, Setting, Verdict, data_of};
 use ckd_core::Track;

@@ -3,22 +3,21 @@
 use crate::notes::storage_note;
 use ccw_core::{Area, STORAGE_LIMIT};
 use chan_walk::{Evidence, Job, Reason, Verdict, fault_at, first_place};
-use chan_why::Witness;
+use chan_why::{Findings, Witness};
 use std::alloc::{AllocError, Global};
 
 /// The notes on a no under the open job of a program in an image: that another size of storage, or
 /// another address of the image, may cure it; that something on the path lies outside the bytes
 /// that were read; and that the start may have been given in decimal. `read` is what was read of
 /// the image. An error means that an allocation failed.
-pub fn no_job_notes(
+pub(crate) fn image_faults(
     alloc: Global,
-    open_job: &Job,
-    verdict: Verdict,
-    witness: &Witness,
+    findings: &Findings,
     read: Area,
 ) -> Result<String, AllocError> {
+    let (open_job, verdict) = (findings.job, findings.survey.verdict());
     let ends = ends_note(alloc, open_job, verdict)?;
-    let outside = outside_note(alloc, open_job, witness, read)?;
+    let outside = outside_note(alloc, open_job, &findings.witness, read)?;
     let start = start_note(alloc, open_job, verdict, read)?;
     format!(in alloc; "{ends}{outside}{start}")
 }

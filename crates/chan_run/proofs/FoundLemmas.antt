@@ -3,7 +3,7 @@ use Rattle.std.proofs.Common.{◌≡◌, ◌∙◌, ◌<◌, ◌++◌, ◌∷◌
 use Rattle.chan_deck.specs.PartsImage.{storage_with}
 use Rattle.chan_find.specs.Programs.{AreStarts}
 use Rattle.chan_run.specs.Find.{AreLinesAt, AreStartsInImage, IsLineAt}
-use Rattle.chan_run.specs.declared.image_options.ImageOptions.{ImageOptions}
+use Rattle.chan_args.specs.declared.image_options.ImageOptions.{ImageOptions}
 
 -- a line more
 pub lines_more : (o : ImageOptions) (image xs : List ℕ) (i d left before after : ℕ) (text line : List ℕ)

@@ -25,10 +25,10 @@ use Rattle.chan_walk.proofs.Algorithms.Opened.{to_open}
 use Rattle.chan_deck.specs.Image.{Image, limit_of}
 use Rattle.chan_deck.proofs.PartLemmas.{storage_fits}
 use Rattle.chan_deck.specs.Needs.{halves, in_six_digits, six_digit_parts}
-use Rattle.chan_args.specs.declared.image_words.RequestedJob.TheVariants as jobs
+use Rattle.chan_args.specs.declared.image_options.RequestedJob.TheVariants as jobs
 use Rattle.chan_run.specs.Image.{IsRequestedDeck, HoldsOfOpenJob, IsProgramIn, least_deck}
 use Rattle.chan_run.specs.Output.{IsDeckJob, deck_of_job, extents_for, granting_just}
-use Rattle.chan_run.specs.declared.image_options.ImageOptions.{ImageOptions}
+use Rattle.chan_args.specs.declared.image_options.ImageOptions.{ImageOptions}
 use Rattle.ccw_core.specs.declared.ccw.TheConstants.{STORAGE_LIMIT}
 
 -- ---- six digits

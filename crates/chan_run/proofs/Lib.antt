@@ -1,7 +1,6 @@
 pub mod Writing
 pub mod NeedLemmas
 pub mod LeastLemmas
-pub mod OptionLemmas
 pub mod Endings
 mod RoomLemmas
 mod FoundLemmas

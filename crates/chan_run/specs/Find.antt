@@ -23,7 +23,7 @@ use Rattle.chan_run.specs.declared.response.Response.{Response}
 use Rattle.chan_run.specs.declared.failure.Failure.TheVariants as failures
 use Rattle.chan_run.specs.declared.outcome.Outcome.{Outcome}
 use Rattle.chan_run.specs.declared.outcome.Outcome.TheVariants.{Done, Failed}
-use Rattle.chan_run.specs.declared.image_options.ImageOptions.{ImageOptions}
+use Rattle.chan_args.specs.declared.image_options.ImageOptions.{ImageOptions}
 
 -- the verdict on a job, or none, since more places are reachable than its limit
 abbrev pub IsVerdictOrNone : Job → Option Verdict → Type 0

@@ -3,8 +3,8 @@ use Rattle.std.specs.Prelude.{ℕ, ◌+◌, ◌-◌, ◌<◌, ◌≤◌, ◌≡�
 use Rattle.std.specs.Prelude.{Option, Some, None, replicate, unwrap_or}
 use Rattle.chan_deck.specs.Image.{Image, Spells, limit_of}
 use Rattle.ccw_core.specs.declared.areas.Area.{Area}
-use Rattle.chan_args.specs.declared.image_words.RequestedJob.{RequestedJob}
-use Rattle.chan_args.specs.declared.image_words.RequestedJob.TheVariants as jobs
+use Rattle.chan_args.specs.declared.image_options.RequestedJob.{RequestedJob}
+use Rattle.chan_args.specs.declared.image_options.RequestedJob.TheVariants as jobs
 use Rattle.chan_deck.specs.Needs.{in_six_digits}
 use Rattle.chan_deck.specs.PartsImage.{storage_with, version_with}
 use Rattle.chan_walk.specs.declared.job.Job.{Job}
@@ -21,7 +21,7 @@ use Rattle.chan_run.specs.declared.failure.Failure.{Failure}
 use Rattle.chan_run.specs.declared.failure.Failure.TheVariants as failures
 use Rattle.chan_run.specs.declared.outcome.Outcome.{Outcome}
 use Rattle.chan_run.specs.declared.outcome.Outcome.TheVariants.{Failed, NoJob}
-use Rattle.chan_run.specs.declared.image_options.ImageOptions.{ImageOptions}
+use Rattle.chan_args.specs.declared.image_options.ImageOptions.{ImageOptions}
 use Rattle.ckd_core.specs.Extents.{all_cylinders}
 use Rattle.ccw_core.specs.declared.ccw.TheConstants.{STORAGE_LIMIT}
 

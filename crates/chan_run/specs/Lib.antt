@@ -3,9 +3,7 @@ pub mod Name
 pub mod Output
 pub mod Failure
 pub mod Outcome
-pub mod Options
 pub mod OneCcw
-pub mod OptionValues
 pub mod Image
 pub mod NoJob
 pub mod Advice

@@ -1,25 +1,24 @@
 -- What is said of an image if no job will do for its program.
-use Rattle.std.specs.Prelude.{◌≡◌, ◌++◌, ℕ, true, List, Option, codes, string_bytes}
+use Rattle.std.specs.Prelude.{◌≡◌, ◌++◌, ℕ, true, List, Option, None, codes, string_bytes}
 use Rattle.chan_walk.specs.Answers.{IsAnswer}
 use Rattle.chan_walk.specs.declared.job.Job.{Job}
 use Rattle.chan_walk.specs.declared.verdict.Verdict.{Verdict}
 use Rattle.chan_walk.specs.declared.verdict.Verdict.TheVariants.{No}
-use Rattle.chan_args.specs.declared.action.Explained.TheVariants as tells
 use Rattle.chan_run.specs.Image.{HasNoNeeds, HoldsOfOpenJob}
 use Rattle.chan_run.specs.Name.{name_before}
-use Rattle.chan_run.specs.Output.{IsExplained}
-use Rattle.chan_run.specs.declared.image_options.ImageOptions.{ImageOptions}
+use Rattle.chan_deck.specs.Explanation.{IsExplained}
+use Rattle.chan_args.specs.declared.image_options.ImageOptions.{ImageOptions}
 use Rattle.chan_run.specs.declared.least_job.NoLeastJob.{NoLeastJob}
 use Rattle.chan_run.specs.declared.least_job.NoLeastJob.TheVariants.{NoJob, Unknown}
 use Rattle.chan_run.specs.declared.outcome.Outcome.TheVariants.{Failed}
 use Rattle.chan_run.specs.declared.failure.Failure.TheVariants as failures
-use Rattle.chan_args.specs.declared.image_words.RequestedJob.TheVariants as jobs
+use Rattle.chan_args.specs.declared.image_options.RequestedJob.TheVariants as jobs
 
 -- this explains the verdict on an open job; notes follow, of which tests hold the texts
 abbrev pub IsExplainedOpenly : Job → List ℕ → Type 0
 IsExplainedOpenly k text =
     (v : Verdict) × (explained : List ℕ) × (notes : List ℕ)
-    × IsExplained tells.First k v explained × (text ≡ explained ++ notes)
+    × IsExplained None k v explained × (text ≡ explained ++ notes)
 
 -- why there is no least job for the program in an image: the no on its open job with the
 -- explanation, or a failure

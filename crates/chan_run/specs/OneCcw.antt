@@ -1,9 +1,9 @@
 -- What `show` writes of a text of sixteen hexadecimal digits.
 use Rattle.std.specs.Prelude.{ℕ, ◌≡◌, ◌≢◌, ◌==◌, Bool, true, false, not, List, [], ◌∷◌, ◌++◌}
-use Rattle.std.specs.Prelude.{◌⊎◌, length, IfSome, IsSome, Result, Ok, Err, Some}
-use Rattle.std.specs.List.{AllPass, filter}
+use Rattle.std.specs.Prelude.{◌⊎◌, ◌||◌, if◌then◌else◌, codes, drop, nat_eq, length, IfSome, IsSome}
+use Rattle.std.specs.Prelude.{Result, Ok, Err, Some}
+use Rattle.std.specs.List.{AllPass, filter, starts_with}
 use Rattle.chan_deck.specs.Listing.{ccw_line}
-use Rattle.chan_run.specs.Options.{digits_in}
 use Rattle.chan_run.specs.Response.{IsBareResponse, advice_in}
 use Rattle.chan_run.specs.declared.response.Response.{Response}
 use Rattle.chan_run.specs.declared.failure.Failure.TheVariants as failures
@@ -33,6 +33,12 @@ shown_line is_named text = line_of_decoded is_named (decode_sized text 8)
 -- a text without its blanks
 abbrev pub without_blanks : List ℕ → List ℕ
 without_blanks text = filter (λ c. not (c == 32)) text
+
+-- the digits of a hexadecimal number: what stands after `0x` or `0X`, or else its whole text
+unfoldable pub digits_in : List ℕ → List ℕ
+digits_in text =
+    if starts_with nat_eq text (codes "0x") || starts_with nat_eq text (codes "0X")
+    then drop 2 text else text
 
 -- the digits of a text as a person writes it: without blanks, and without `0x` before them
 abbrev pub plain_digits : List ℕ → List ℕ

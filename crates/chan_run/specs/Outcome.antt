@@ -3,10 +3,10 @@ use Rattle.std.specs.Prelude.{◌≡◌, ◌++◌, ◌∷◌, ℕ, true, List, [
 use Rattle.std.specs.Fmt.{decimal}
 use Rattle.ccw_core.specs.declared.watched.DeviceFault.{DeviceFault}
 use Rattle.chan_run.specs.declared.failure.Failure.TheVariants as failures
-use Rattle.chan_run.specs.declared.status.RunError.{RunError}
-use Rattle.chan_run.specs.declared.status.RunError.TheVariants as runs
-use Rattle.chan_run.specs.declared.status.Status.{Status}
-use Rattle.chan_run.specs.declared.status.Status.TheVariants as statuses
+use Rattle.chan_run.specs.declared.judging.RunError.{RunError}
+use Rattle.chan_run.specs.declared.judging.RunError.TheVariants as runs
+use Rattle.chan_run.specs.declared.judging.Status.{Status}
+use Rattle.chan_run.specs.declared.judging.Status.TheVariants as statuses
 use Rattle.chan_run.specs.declared.one_ccw.ShowError.{ShowError}
 use Rattle.chan_run.specs.declared.one_ccw.ShowError.TheVariants as shows
 use Rattle.chan_run.specs.declared.outcome.Outcome.{Outcome}

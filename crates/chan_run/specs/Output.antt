@@ -3,30 +3,26 @@ use Rattle.std.specs.Prelude.{◌≡◌, ◌++◌, ◌∷◌, ◌==◌, ℕ, Boo
 use Rattle.std.specs.Prelude.{Some, if◌then◌else◌}
 use Rattle.std.specs.Io.KnownBytes.{Appends}
 use Rattle.chan_deck.specs.Image.{Image, Spells, limit_of}
-use Rattle.chan_deck.specs.Explanation.{IsExplanationText, IsOffenceText}
+use Rattle.chan_deck.specs.Explanation.{IsExplained}
 use Rattle.chan_deck.specs.Graph.{IsPictureOf}
 use Rattle.chan_deck.specs.Listing.{listing}
 use Rattle.chan_deck.specs.Needs.{in_six_digits, needs_text}
 use Rattle.chan_deck.specs.PartsImage.{storage_with, version_with}
 use Rattle.chan_deck.specs.VerdictLine.{verdict_line}
 use Rattle.chan_walk.specs.declared.job.Job.{Job}
-use Rattle.chan_walk.specs.declared.offence.Offence.{Offence}
 use Rattle.chan_walk.specs.declared.place.Place.{Place}
 use Rattle.chan_walk.specs.declared.verdict.Verdict.{Verdict}
 use Rattle.chan_walk.specs.declared.verdict.Verdict.TheVariants.{Yes, No}
-use Rattle.chan_why.specs.declared.witness.Witness.{Witness}
-use Rattle.chan_why.specs.Witness.{IsWitnessOf, offence_at}
 use Rattle.chan_walk.specs.Limit.{usual_limit}
 use Rattle.chan_walk.specs.Places.{AreReachable}
 use Rattle.chan_walk.specs.Verdict.{IsVerdict}
 use Rattle.chan_walk.specs.Job.{extents_of, fetch_of, storage_of, store_of}
 use Rattle.chan_walk.specs.OpenJob.{AreOfOneProgram, IsOpenJob}
-use Rattle.chan_walk.specs.Offence.{AreOffences, first_verdict}
 use Rattle.chan_needs.specs.Listed.{AreNeeds, Listed}
 use Rattle.chan_args.specs.declared.action.Action.{Action}
 use Rattle.chan_args.specs.declared.action.Action.TheVariants as actions
-use Rattle.chan_args.specs.declared.action.Explained.{Explained}
-use Rattle.chan_args.specs.declared.action.Explained.TheVariants as tells
+use Rattle.chan_args.specs.declared.action.Asked.{Asked}
+use Rattle.chan_args.specs.declared.action.Asked.TheVariants as tells
 use Rattle.chan_run.specs.Name.{heading_of, name_before, name_of}
 use Rattle.chan_run.specs.declared.name.Naming.{Naming}
 use Rattle.ckd_core.specs.Extents.{all_cylinders}
@@ -50,28 +46,10 @@ pub record HoldsOfDeckJob (t : List ℕ) (Holds : Job → Type 0) : Type 0 where
   pub of_deck : IsDeckJob deck job
   pub holds : Holds job
 
--- the offence that is asked about, if one is at the address
-abbrev pub requested_offence : List Offence → Explained → Option Offence
-requested_offence os (tells.At a) = offence_at a os
-requested_offence os told = None
-
--- the verdict whose witness is shown: that of the offence that is asked about, or of the first
-abbrev pub shown_verdict : List Offence → Option Offence → Verdict
-shown_verdict os None = first_verdict os
-shown_verdict os (Some o) = No o.place.address o.reason
-
--- the text explains these offences by a witness: the first of them, beside the others, or the one
--- that is asked about
-abbrev pub IsExplanation : Job → List Offence → Option Offence → Witness → List ℕ → Type 0
-IsExplanation j os None w text = IsExplanationText j os w text
-IsExplanation j os (Some o) w text = IsOffenceText j (first_verdict os) w text
-
--- this is the explanation of the verdict on the job
-abbrev pub IsExplained : Explained → Job → Verdict → List ℕ → Type 0
-IsExplained told j v text =
-    (os : List Offence) × (w : Witness) × AreOffences j os × (v ≡ first_verdict os)
-    × IsWitnessOf j (shown_verdict os (requested_offence os told)) w
-    × IsExplanation j os (requested_offence os told) w text
+-- the address that is asked about, if one is
+abbrev pub asked_by : Asked → Option ℕ
+asked_by (tells.At a) = Some a
+asked_by told = None
 
 -- a deck, but for its job, which grants just what is needed; it has one extent or more
 abbrev pub extents_for : List (ℕ × ℕ) → List (ℕ × ℕ)
@@ -122,7 +100,7 @@ IsNeedsText j text =
 abbrev pub IsNeeded : Bool → Job → Verdict → List ℕ → Type 0
 IsNeeded false j Yes text = IsNeedsText j text
 IsNeeded true j Yes text = IsLeastText j text
-IsNeeded false j (No a r) text = IsExplained tells.First j (No a r) text
+IsNeeded false j (No a r) text = IsExplained None j (No a r) text
 IsNeeded true j (No a r) text = text ≡ []
 
 -- what an action asks for of a job and its verdict: the verdict's line, the listing of the
@@ -137,7 +115,8 @@ IsActionOutput n (actions.List true) j v text =
     (rows : List ℕ) × (text ≡ heading_of n ++ (rows ++ verdict_line v))
 IsActionOutput n (actions.Range start len) j v text = Unit {0}
 IsActionOutput n (actions.Why told) j v text =
-    (why : List ℕ) × IsExplained told j v why × (text ≡ name_before (name_of n) true ++ why)
+    (why : List ℕ) × IsExplained (asked_by told) j v why
+    × (text ≡ name_before (name_of n) true ++ why)
 IsActionOutput n actions.Graph j v text = IsPictureOf (name_of n) v text
 IsActionOutput n (actions.Needs deck) j v text =
     (needed : List ℕ) × IsNeeded deck j v needed × (text ≡ heading_of n ++ needed)

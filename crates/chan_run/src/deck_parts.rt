@@ -4,7 +4,7 @@ ghost use Rattle.std.specs.Prelude.{◌≡◌};
 ghost use Rattle.chan_deck.specs.PartsImage.{HasShortAddresses, image_of_parts};
 ghost use Rattle.chan_run.specs.Image.{deck_of};
 
-use crate::image_options::ImageOptions;
+use chan_args::ImageOptions;
 use chan_deck::Parts;
 
 /// The parts of the deck that the options and an image of storage make.

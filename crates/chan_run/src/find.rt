@@ -12,15 +12,15 @@ ghost use Rattle.chan_run.specs.declared.failure.Failure.TheVariants as failures
 ghost use Rattle.chan_run.specs.declared.outcome.Outcome.TheVariants.{Failed};
 ghost use Rattle.ccw_core.specs.declared.ccw.TheConstants.{STORAGE_LIMIT};
 
-use crate::decks::room_advice;
 use crate::delivery::deliver;
 use crate::failure::Failure;
 use crate::image::{WholeImage, read_image};
-use crate::image_options::ImageOptions;
+use crate::image_deck::room_advice;
 use crate::least_job::job_at;
 use crate::outcome::Outcome;
 use crate::response::Response;
 use ccw_core::{Storage, Watched, write_out};
+use chan_args::ImageOptions;
 use chan_deck::{
     deck_note, find_note, image_notes, limit_note, place_image, program_text, shape_of,
     unjudged_text,

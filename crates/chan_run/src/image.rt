@@ -11,12 +11,11 @@ ghost use Rattle.ccw_core.specs.declared.ccw.TheConstants.{STORAGE_LIMIT};
 
 use crate::deck_parts::deck_parts;
 use crate::failure::Failure;
-use crate::image_options::ImageOptions;
 use crate::input::read_input;
 use crate::least_job::{NoLeastJob, least_text};
 use crate::open_deck::open_text;
 use ccw_core::{STORAGE_LIMIT, Watched};
-use chan_args::RequestedJob;
+use chan_args::{ImageOptions, RequestedJob};
 use chan_deck::parts_text;
 use std::alloc::{AllocError, Global};
 use std::io::Read;

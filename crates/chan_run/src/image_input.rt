@@ -4,12 +4,12 @@ ghost use Rattle.std.specs.Prelude.{◌≡◌, false};
 
 use crate::failure::Failure;
 use crate::image::too_long;
-use crate::image_options::ImageOptions;
 use crate::input::{TEXT_LIMIT, read_input};
 use crate::name::named;
 use crate::outcome::{Outcome, report};
 use crate::texts::{write_bytes, write_texts};
 use ccw_core::{STORAGE_LIMIT, Watched};
+use chan_args::ImageOptions;
 use chan_deck::{DumpError, is_text, read_dump};
 use std::alloc::Global;
 use std::io;
@@ -47,34 +47,40 @@ impl<R: Read> Read for ImageInput<R> {
     }
 }
 
-/// Looks at an input, and gives what the image is read from, with the options for it. If the input
-/// is a dump, these are its bytes, at its own address unless another one was asked for, and the
-/// writer gets the notes on it. Where there is no image, the writer gets the line that says so, and
-/// the exit status is given.
+/// Looks at an input, and gives what the image is read from. If the input is a dump, these are its
+/// bytes, and the writer gets the notes on it. Unless an address was asked for, that of the options
+/// becomes the dump's own, or zero if the input isn't a dump. Where there is no image, the writer
+/// gets the line that says so, and the exit status is given.
 ///
 /// A text is read to its end, and an input that is none not beyond its first bytes.
 pub fn take_image<R: Read + Drop, W: Write>(
     alloc: Global,
     name: Option<&str>,
-    options: ImageOptions,
+    options: &mut ImageOptions,
     is_placed: bool,
     input: R,
     errors: &mut Watched<W>,
-) -> Result<(ImageOptions, ImageInput<R>), u8>
+) -> Result<ImageInput<R>, u8>
     requires { errors.old.failed ≡ false }
 {
-    let image = match look_at(alloc, &options, input) {
+    let image = match look_at(alloc, options, input) {
         Ok(image) => image,
         Err(failure) => return Err(report(name, Outcome::Failed(failure), errors)),
     };
+    if !is_placed {
+        options.at = 0;
+    }
     if image.rest.is_some() {
-        return Ok((options, image));
+        return Ok(image);
     }
     match read_dump(alloc, image.front.as_slice()) {
-        Ok(None) => Ok((options, image)),
+        Ok(None) => Ok(image),
         Ok(Some(dump)) => {
             let _ = write_bytes(dump.notes.as_bytes(), errors);
-            Ok((options_at(options, is_placed, dump.at), whole(dump.image)))
+            if !is_placed && dump.at < STORAGE_LIMIT {
+                options.at = dump.at;
+            }
+            Ok(whole(dump.image))
         }
         Err(DumpError::Refused(text)) => {
             let (name, mark) = named(name, true);
@@ -85,15 +91,6 @@ pub fn take_image<R: Read + Drop, W: Write>(
             Err(report(name, Outcome::Failed(Failure::OutOfMemory), errors))
         }
     }
-}
-
-/// The options for a dump's image, which has its own address if no other is asked for.
-fn options_at(options: ImageOptions, is_placed: bool, at: u32) -> ImageOptions {
-    let mut options = options;
-    if !is_placed && at < STORAGE_LIMIT {
-        options.at = at;
-    }
-    options
 }
 
 /// An image that has these bytes and no more.

@@ -1,31 +1,33 @@
 //! The deck of an image of storage with the least job of its program.
 
 ghost use Rattle.std.specs.Prelude.{◌≡◌, ◌+◌, ◌≤◌, ◌^◌, List, ℕ, length, IfErr, IfOk, IfSome, OnOk};
+ghost use Rattle.std.specs.Prelude.{string_bytes};
 ghost use Rattle.std.specs.List.{AllByRecursion};
 ghost use Rattle.ckd_core.specs.Extents.{IsExtent};
 ghost use Rattle.chan_deck.specs.PartsImage.{storage_with, image_of_parts};
 ghost use Rattle.ccw_core.specs.Held.{bytes_held};
+ghost use Rattle.chan_walk.specs.JobSurvey.{IsSurvey};
 ghost use Rattle.chan_walk.specs.OpenJob.{AreOfOneProgram};
 ghost use Rattle.chan_needs.specs.Listed.{AreNeeds, listed};
 ghost use Rattle.chan_walk.specs.declared.job.Job.{Job};
-ghost use Rattle.chan_args.specs.declared.image_words.RequestedJob.TheVariants as jobs;
+ghost use Rattle.chan_args.specs.declared.image_options.RequestedJob.TheVariants as jobs;
 ghost use Rattle.chan_run.specs.Image.{IsDeckText, IsProgramAt, IsProgramIn};
-ghost use Rattle.chan_run.specs.NoJob.{HasNoLeastJob};
+ghost use Rattle.chan_run.specs.NoJob.{HasNoLeastJob, IsExplainedOpenly};
 ghost use Rattle.chan_run.specs.Output.{IsLeastText, extents_for, granting_just, unusual_limit};
 ghost use Rattle.chan_deck.specs.Image.{Spells};
 ghost use Rattle.chan_deck.specs.Item.{IsAddress};
 ghost use Rattle.chan_walk.specs.Job.{storage_of};
-ghost use Rattle.chan_run.specs.declared.image_options.ImageOptions.{ImageOptions};
+ghost use Rattle.chan_args.specs.declared.image_options.ImageOptions.{ImageOptions};
 ghost use Rattle.ccw_core.specs.declared.ccw.TheConstants.{STORAGE_LIMIT};
 
 use crate::deck_parts::deck_parts;
 use crate::failure::Failure;
-use crate::image_options::ImageOptions;
-use crate::no_job::open_explanation;
 use ccw_core::{Area, Storage};
-use chan_deck::{Parts, in_six_digits, parts_text, place_image};
+use chan_args::ImageOptions;
+use chan_deck::{Parts, image_advice, in_six_digits, parts_text, place_image, why_text};
 use chan_needs::{Needs, needs_from, pairs_of};
-use chan_walk::{Job, Limit, OpenJob, Reason, Verdict, WalkError, survey};
+use chan_walk::{Job, Limit, OpenJob, Reason, Survey, Verdict, WalkError, survey};
+use chan_why::findings_from;
 use ckd_core::{Extents, LAST_CYLINDER};
 use std::alloc::{AllocError, Global};
 
@@ -208,10 +210,27 @@ fn image_needs(alloc: Global, job: &Job<'_>, read: Area) -> Result<Needs, NoLeas
         Verdict::No { address, reason } => Err(NoLeastJob::NoJob {
             address,
             reason,
-            why: open_explanation(alloc, &open_job, &survey, read)?,
+            why: open_explanation(alloc, &open_job, survey, read)?,
         }),
         Verdict::Yes => Ok(needs_from(alloc, &open_job, &survey)?),
     }
+}
+
+/// The explanation of the verdict on an open job that was surveyed, with notes and how to cure it;
+/// `read` is what was read of the image.
+fn open_explanation(
+    alloc: Global,
+    open_job: &Job,
+    survey: Survey,
+    read: Area,
+) -> Result<String, AllocError>
+    requires { IsSurvey open_job.now survey }
+    ensures { IfOk result (λ text. IsExplainedOpenly open_job.now (string_bytes text)) }
+{
+    let findings = findings_from(alloc, open_job, survey, None)?;
+    let why = why_text(alloc, &findings, false)?;
+    let advice = image_advice(alloc, &findings, read)?;
+    Ok(format!(in alloc; "{why}{advice}")?)
 }
 
 /// The extents that grant some runs of cylinders: all of the device's where there is none.

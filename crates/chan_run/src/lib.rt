@@ -17,51 +17,36 @@
 //! bytes, and `deliver` writes an answer.
 #![tactic(auto)]
 
-mod advice;
 mod answer;
-mod bases;
 mod deck_parts;
-mod decks;
 mod delivery;
-mod explained;
-mod extra_word;
 mod failure;
 mod find;
 mod image;
+mod image_deck;
 mod image_input;
-mod image_options;
 mod input;
+mod judging;
 mod laws;
 mod least_job;
 mod meanings;
 mod name;
 mod named_ccw;
-mod no_job;
 mod one_ccw;
 mod open_deck;
-mod option_fault;
-mod option_values;
-mod options;
 mod outcome;
-mod output;
 mod response;
-mod status;
 mod texts;
-mod word;
 
-pub use crate::decks::{judge_deck, make_deck, note_usual_device};
 pub use crate::delivery::deliver;
 pub use crate::failure::Failure;
 pub use crate::find::find_programs;
+pub use crate::image_deck::{make_deck, note_usual_device};
 pub use crate::image_input::{ImageInput, take_image};
-pub use crate::image_options::{ImageOptions, OptionError, OptionFault};
+pub use crate::judging::{RunError, Status, judge_deck, run};
 pub use crate::meanings::{explain_word, list_words};
 pub use crate::name::Naming;
 pub use crate::named_ccw::respond_to_ccw;
 pub use crate::one_ccw::{ShowError, show};
-pub use crate::option_fault::{report_file, report_many_ccws, report_option, report_usage};
-pub use crate::option_values::{offence_action, options_of, range_action};
-pub use crate::outcome::{Outcome, ends_run, exit_status, greater_status, report};
+pub use crate::outcome::{Outcome, ends_run, exit_status, greater_status, report, report_usage};
 pub use crate::response::{Response, respond};
-pub use crate::status::{RunError, Status, run};
-pub use crate::word::shown_word;

@@ -4,7 +4,7 @@ ghost use Rattle.std.specs.Prelude.{◌≡◌, ◌≢◌, ◌↔◌, ◌⊎◌, 
 ghost use Rattle.std.specs.Prelude.{string_bytes};
 ghost use Rattle.chan_run.specs.OneCcw.{IsCcwReread, IsCcwResponse, IsCcwShown, plain_digits};
 ghost use Rattle.chan_run.specs.OneCcw.{SpellsCcw, shown_line, without_blanks};
-ghost use Rattle.chan_run.specs.Options.{digits_in};
+ghost use Rattle.chan_run.specs.OneCcw.{digits_in};
 ghost use Rattle.chan_run.specs.Outcome.{IsWriteFailure};
 ghost use Rattle.std.specs.Prelude.{◌≤◌, ◌||◌, None, IsTrue, codes, length, nat_eq};
 ghost use Rattle.std.specs.List.{starts_with};

@@ -6,9 +6,9 @@ ghost use Rattle.chan_deck.specs.PartsImage.{storage_with};
 ghost use Rattle.chan_run.specs.Image.{areas_over, open_deck};
 ghost use Rattle.ccw_core.specs.declared.ccw.TheConstants.{STORAGE_LIMIT};
 
-use crate::image_options::ImageOptions;
 use crate::least_job::extents_over;
 use ccw_core::Area;
+use chan_args::ImageOptions;
 use chan_deck::{Parts, in_six_digits, parts_text};
 use ckd_core::FileMask;
 use std::alloc::{AllocError, Global};

@@ -13,7 +13,7 @@ use crate::failure::Failure;
 use crate::name::named;
 use crate::one_ccw::ShowError;
 use crate::texts::write_texts;
-use ccw_core::{DeviceFault, Watched};
+use ccw_core::{DeviceFault, Watched, write_out};
 use chan_deck::Cause;
 use chan_walk::{Reason, Verdict};
 use itoa::Buffer;
@@ -107,6 +107,16 @@ pub fn report<W: Write>(name: Option<&str>, outcome: Outcome, to: &mut Watched<W
 {
     let _ = write_line(name, outcome, to);
     exit_status(outcome)
+}
+
+/// Writes the text of a usage fault, and gives the exit status, 4. It takes no memory. If the
+/// writer fails, the status is the same, and a prefix of the text was written.
+pub fn report_usage<W: Write>(text: &str, to: &mut Watched<W>) -> u8
+    requires { to.old.failed ≡ false }
+    ensures status { result ≡ 4 }
+{
+    let _ = write_out(text.as_bytes(), to);
+    4
 }
 
 /// Whether a write failed, so that a run over several inputs ends with this one.

@@ -9,8 +9,7 @@ ghost use Rattle.chan_run.specs.Response.{IsVerdictResponse};
 ghost use Rattle.chan_run.specs.declared.failure.Failure.TheVariants as failures;
 ghost use Rattle.chan_run.specs.declared.outcome.Outcome.TheVariants.{Failed};
 
-use crate::advice::{limit_advice, refusal_advice};
-use crate::answer::answer_of;
+use crate::answer::{answer_of, limit_advice, refusal_advice};
 use crate::failure::Failure;
 use crate::name::Naming;
 use crate::outcome::Outcome;

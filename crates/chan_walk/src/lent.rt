@@ -18,7 +18,7 @@ use std::marker::Model;
 /// The parts of the areas lent that lie in storage, merged. Bytes past storage never matter, since
 /// no data range that passes the channel's checks has any.
 #[derive(Drop)]
-pub(crate) struct Lent {
+pub struct Lent {
     fetch: Merged,
     store: Merged,
 }
@@ -33,7 +33,7 @@ impl Model for Lent {
 
 impl Lent {
     /// The areas lent to a job. The cost is that of sorting them.
-    pub(crate) fn new(alloc: Global, job: &Job) -> Result<Lent, AllocError>
+    pub fn new(alloc: Global, job: &Job) -> Result<Lent, AllocError>
         ensures { IfOk result (AreLent job.now) }
     {
         let length = job.storage.len();

@@ -7,6 +7,7 @@ ghost use Rattle.chan_walk.specs.Direction.{is_direction};
 ghost use Rattle.chan_walk.specs.Fault.{HasFault};
 ghost use Rattle.chan_walk.specs.Job.{storage_of};
 ghost use Rattle.chan_walk.specs.Lending.{Lends};
+ghost use Rattle.chan_walk.specs.Lent.{AreLent};
 ghost use Rattle.chan_walk.specs.Look.{IsLook, argument_seen};
 ghost use Rattle.chan_walk.specs.Successor.{AreSuccessors};
 
@@ -15,7 +16,7 @@ use crate::direction::Direction;
 use crate::evidence::Evidence;
 use crate::fault::{fault_without_ccw, own_fault};
 use crate::job::Job;
-use crate::lent::Lending;
+use crate::lent::{Lending, Lent};
 use crate::place::Place;
 use crate::reason::Reason;
 use crate::successor::{Next, next_after};
@@ -179,12 +180,22 @@ fn look_at_ccw(job: &Job, lending: Lending, place: Place, ccw: Ccw) -> Look
 /// Looks at a place, which may be any, reached or not.
 ///
 /// It takes no memory. The cost is that of `covers` over the areas lent, at most the square of
-/// their number.
+/// their number, so `look_among` is for areas that a user gave.
 pub fn look_at(job: &Job, place: Place) -> Look
     ensures place { result.place ≡ place }
     ensures look { IsLook job.now result }
 {
     look_by(job, Lending::Given, place)
+}
+
+/// Looks at a place, which may be any, among the areas lent to the job. It takes no memory. The
+/// cost is that of a binary search, so it serves for many places.
+pub fn look_among(job: &Job, lent: &Lent, place: Place) -> Look
+    requires { AreLent job.now lent.now }
+    ensures place { result.place ≡ place }
+    ensures look { IsLook job.now result }
+{
+    look_by(job, Lending::Merged(lent), place)
 }
 
 /// Looks at a place: the command table is asked once, and the argument of a seek is gathered once,

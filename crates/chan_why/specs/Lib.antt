@@ -2,6 +2,7 @@ pub mod Path
 pub mod Evidence
 pub mod SecondPath
 pub mod Witness
+pub mod Findings
 pub mod Finder
 pub mod Notes
 pub mod Hang

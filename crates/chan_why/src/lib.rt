@@ -14,6 +14,7 @@
 mod evidence;
 mod exchange;
 mod finder;
+mod findings;
 mod hang;
 mod laws;
 mod notes;
@@ -23,7 +24,8 @@ mod second_path;
 mod witness;
 
 pub use crate::exchange::seems_exchanged;
-pub use crate::hang::{can_end, hang_from};
-pub use crate::notes::{Notes, notes_from};
+pub use crate::findings::{Findings, Open, findings_from};
+pub use crate::hang::can_end;
+pub use crate::notes::Notes;
 pub use crate::remarks::{Remarks, remarks_from};
-pub use crate::witness::{Witness, evidence_from, offence_at, witness_from, witness_of};
+pub use crate::witness::{Witness, witness_from};

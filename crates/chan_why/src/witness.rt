@@ -62,17 +62,31 @@ pub fn witness_from(alloc: Global, survey: &Survey) -> Result<Witness, AllocErro
     }
 }
 
-/// The witness of any offence of the job that was surveyed, chosen as for the first, at the same
-/// cost. `AllocError` comes if a growth was refused.
-pub fn witness_of(alloc: Global, survey: &Survey, offence: Offence) -> Result<Witness, AllocError>
+/// The witness of any offence of the job that was surveyed, chosen as for the first.
+fn witness_of(alloc: Global, survey: &Survey, offence: Offence) -> Result<Witness, AllocError>
     requires { (j : Job) × IsSurvey j survey.now × Has survey.now.offences offence }
     ensures { IfOk result (λ w. (j : Job) → IsSurvey j survey.now
         → IsWitnessOf j (No offence.place.address offence.reason) w) }
 {
     let finder = Finder::new(alloc, survey)?;
-    let (at, evidence) = case_of(survey, &finder, offence);
+    witness_by(alloc, survey, &finder, offence)
+}
+
+/// The same, by a finder.
+pub(crate) fn witness_by(
+    alloc: Global,
+    survey: &Survey,
+    finder: &Finder,
+    offence: Offence,
+) -> Result<Witness, AllocError>
+    requires listed { (j : Job) × IsSurvey j survey.now × Has survey.now.offences offence }
+    requires finds { FindsFirst survey.now.looks survey.now.offences finder.now }
+    ensures { IfOk result (λ w. (j : Job) → IsSurvey j survey.now
+        → IsWitnessOf j (No offence.place.address offence.reason) w) }
+{
+    let (at, evidence) = case_of(survey, finder, offence);
     let Path { places, stored_by } = path_at(alloc, survey, at)?;
-    let second_path = second_path(alloc, survey, &finder, &evidence)?;
+    let second_path = second_path(alloc, survey, finder, &evidence)?;
     Ok(Witness {
         path: places,
         evidence: Some(evidence),
@@ -83,7 +97,7 @@ pub fn witness_of(alloc: Global, survey: &Survey, offence: Offence) -> Result<Wi
 
 /// The offence at an address, of several the one with the least reason; `None` if none is there.
 /// The cost is that of reading all offences.
-pub fn offence_at(survey: &Survey, address: u32) -> Option<Offence>
+pub(crate) fn offence_at(survey: &Survey, address: u32) -> Option<Offence>
     ensures first { result ≡ specs.offence_at address survey.now.offences }
     ensures listed { IfSome result (Has survey.now.offences) }
 {
@@ -124,17 +138,19 @@ fn told_over(reason: Reason, stored_by: Option<Place>) -> Option<Place>
 }
 
 /// The evidence for each offence of the job that was surveyed, in the order of `Survey::offences`:
-/// that of its witness. `AllocError` comes if a growth was refused. Tests hold the order.
-///
-/// With n places, the cost is n log n.
-pub fn evidence_from(alloc: Global, survey: &Survey) -> Result<Vec<Evidence>, AllocError>
-    requires { (j : Job) × IsSurvey j survey.now }
+/// that of its witness. Tests hold the order.
+pub(crate) fn evidence_by(
+    alloc: Global,
+    survey: &Survey,
+    finder: &Finder,
+) -> Result<Vec<Evidence>, AllocError>
+    requires survey { (j : Job) × IsSurvey j survey.now }
+    requires finds { FindsFirst survey.now.looks survey.now.offences finder.now }
 {
     let offences = survey.offences();
-    let finder = Finder::new(alloc, survey)?;
     let mut evidence = Vec::new(alloc);
     for offence in offences {
-        evidence.push(case_of(survey, &finder, *offence).1)?;
+        evidence.push(case_of(survey, finder, *offence).1)?;
     }
     Ok(evidence)
 }

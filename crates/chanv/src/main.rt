@@ -13,13 +13,11 @@ ghost use Rattle.std.specs.Prelude.{◌≡◌, ◌↔◌, true};
 ghost use Rattle.chan_run.specs.Outcome.{IsWriteFailure};
 
 use ccw_core::Watched;
-use chan_args::{Action, ImageRequest, Request, read_request};
+use chan_args::{Action, ImageOptions, ImageRequest, Request, Task, read_request, shown_word};
 use chan_run::{
-    Failure, ImageInput, ImageOptions, Naming, OptionError, OptionFault, Outcome, Response,
-    deliver, ends_run, exit_status, explain_word, find_programs, greater_status, judge_deck,
-    list_words, make_deck, note_usual_device, offence_action, options_of, range_action, report,
-    report_file, report_many_ccws, report_option, report_usage, respond_to_ccw, show, shown_word,
-    take_image,
+    Failure, ImageInput, Naming, Outcome, Response, deliver, ends_run, exit_status, explain_word,
+    find_programs, greater_status, judge_deck, list_words, make_deck, note_usual_device, report,
+    report_usage, respond_to_ccw, show, take_image,
 };
 use std::alloc::AllocError;
 use std::env::{Env, FillError};
@@ -31,15 +29,6 @@ use std::{io, str};
 
 /// The first size of the room for a word, in bytes.
 const USUAL_ROOM: usize = 256;
-
-/// What is done with each input.
-#[derive(Clone, Copy)]
-enum Task<'a> {
-    /// Its deck is judged.
-    Judge(Action),
-    /// The programs in its image are found, or else a deck is made of it.
-    Search(&'a ImageRequest<'a>, bool),
-}
 
 /// An input without a name.
 const UNNAMED: Naming<'static> = Naming {
@@ -145,40 +134,44 @@ fn read_word(rt: &HostRuntime, number: usize) -> Result<Option<Vec<u8>>, AllocEr
 /// Does what the words ask for, and gives the exit status.
 fn carry_out(rt: &HostRuntime, words: &Words) -> u8 {
     match read_request(rt.alloc(), words.shown.as_slice()) {
-        Request::Show(parts) => show_ccw(rt, parts.as_slice()),
-        Request::ShowNamed(parts) => show_named_ccw(rt, parts.as_slice()),
-        Request::ManyCcws => report_many_ccws(&mut Watched::new(rt.stderr())),
-        Request::Run(action, names) => judge_all(rt, words, Ok(action), names.as_slice()),
-        Request::Image(request) => search_all(rt, words, &request, false),
-        Request::Find(request) => search_all(rt, words, &request, true),
-        Request::ExplainOffence(address, names) => {
-            judge_all(rt, words, offence_action(address), names.as_slice())
+        Request::Run(task, names) => run_over_all(rt, words, task, names.as_slice()),
+        Request::Show { words, is_named } => show_words(rt, words.as_slice(), is_named),
+        Request::Explain(parts) => explain_or_list(rt, parts.as_slice()),
+        Request::Print(text) => print_out(rt, text),
+        Request::NoCommand(word, usage, of_file) => {
+            end_without_command(rt, words, word, usage.as_str(), of_file.as_str())
         }
-        Request::ListRange(range, names) => {
-            judge_all(rt, words, range_action(range), names.as_slice())
-        }
-        Request::Explain(parts) => explain(rt, parts.as_slice()),
-        Request::ExplainFlags(flags) => explain(rt, &[flags]),
-        Request::Words => list_all_words(rt),
-        Request::Help(text) | Request::Version(text) => match text.to_string(rt.alloc()) {
-            Ok(text) => print_out(rt, text),
-            Err(AllocError) => report_no_memory(rt),
-        },
-        Request::NoCommand(word, _) if is_file(rt, words, word) => {
-            report_file(word, &mut Watched::new(rt.stderr()))
-        }
-        Request::NoCommand(_, text) | Request::Fault(text) => match text.to_string(rt.alloc()) {
-            Ok(text) => {
-                report_usage(
-                    words.shown.as_slice(),
-                    text.as_str(),
-                    &mut Watched::new(rt.stderr()),
-                )
-            }
-            Err(AllocError) => report_no_memory(rt),
-        },
+        Request::Usage(usage) => end_as_usage(rt, usage.as_str()),
         Request::NoMemory => report_no_memory(rt),
     }
+}
+
+/// Shows the CCW of these words, maybe with the name of its command.
+fn show_words(rt: &HostRuntime, words: &[&str], is_named: bool) -> u8 {
+    if is_named {
+        return show_named_ccw(rt, words);
+    }
+    show_ccw(rt, words)
+}
+
+/// Writes the text of a usage fault, and gives the exit status: that the word isn't a command, or
+/// if it is the name of a file, which commands take one.
+fn end_without_command(
+    rt: &HostRuntime,
+    words: &Words,
+    word: &str,
+    usage: &str,
+    of_file: &str,
+) -> u8 {
+    if is_file(rt, words, word) {
+        return end_as_usage(rt, of_file);
+    }
+    end_as_usage(rt, usage)
+}
+
+/// Writes the text of a usage fault, and gives the exit status.
+fn end_as_usage(rt: &HostRuntime, text: &str) -> u8 {
+    report_usage(text, &mut Watched::new(rt.stderr()))
 }
 
 /// Reports what came of an input that may have a name, and gives the exit status.
@@ -236,6 +229,14 @@ fn show_named_ccw(rt: &HostRuntime, parts: &[&str]) -> u8 {
     }
 }
 
+/// Explains a word of these parts, or lists the words that have a meaning if there is no part.
+fn explain_or_list(rt: &HostRuntime, parts: &[&str]) -> u8 {
+    if parts.is_empty() {
+        return list_all_words(rt);
+    }
+    explain(rt, parts)
+}
+
 /// Explains a word whose parts stand with a space between two.
 fn explain(rt: &HostRuntime, parts: &[&str]) -> u8 {
     let mut output = Watched::new(Explanation(rt.stdout()));
@@ -264,50 +265,27 @@ fn list_all_words(rt: &HostRuntime) -> u8 {
     end_with(rt, answer, &mut output)
 }
 
-/// Judges the deck of each input as it is asked for, or reports why that isn't accepted.
-fn judge_all(
-    rt: &HostRuntime,
-    words: &Words,
-    action: Result<Action, OptionFault<'_>>,
-    names: &[&str],
-) -> u8 {
-    match action {
-        Ok(action) => run_over_all(rt, words, Task::Judge(action), names),
-        Err(fault) => report_option(fault, &mut Watched::new(rt.stderr())),
-    }
-}
-
-/// Finds the programs in an image of storage, or makes a deck of it, and gives the exit status.
-fn search_all(rt: &HostRuntime, words: &Words, request: &ImageRequest<'_>, finds: bool) -> u8 {
-    match options_of(rt.alloc(), &request.words) {
-        Ok(_) => (),
-        Err(OptionError::Wrong(fault)) => {
-            return report_option(fault, &mut Watched::new(rt.stderr()));
-        }
-        Err(OptionError::Memory) => return report_no_memory(rt),
-    }
-    if request.is_usual_device {
+/// Runs over each input, or over standard input if there is none, and gives the exit status.
+fn run_over_all(rt: &HostRuntime, words: &Words, task: Task, names: &[&str]) -> u8 {
+    let mut task = task;
+    if let Task::Search(
+        ImageRequest {
+            is_usual_device: true,
+            ..
+        },
+    ) = &task
+    {
         note_usual_device(&mut Watched::new(rt.stderr()));
     }
-    run_over_all(
-        rt,
-        words,
-        Task::Search(request, finds),
-        request.files.as_slice(),
-    )
-}
-
-/// Runs over each input, or over standard input if there is none, and gives the exit status.
-fn run_over_all(rt: &HostRuntime, words: &Words, task: Task<'_>, names: &[&str]) -> u8 {
     match names {
-        [] | ["-"] => run_over(rt, task, UNNAMED, Input::Standard(rt.stdin())).0,
-        _ => run_over_each(rt, words, task, names),
+        [] | ["-"] => run_over(rt, &mut task, UNNAMED, Input::Standard(rt.stdin())).0,
+        _ => run_over_each(rt, words, &mut task, names),
     }
 }
 
 /// Runs over each input in turn, up to a failed write, and gives the greatest status. The names
 /// are in the order of the words.
-fn run_over_each(rt: &HostRuntime, words: &Words, task: Task<'_>, names: &[&str]) -> u8 {
+fn run_over_each(rt: &HostRuntime, words: &Words, task: &mut Task, names: &[&str]) -> u8 {
     let mut greatest = 0;
     let mut number = 0;
     for name in names {
@@ -330,16 +308,16 @@ fn run_over_each(rt: &HostRuntime, words: &Words, task: Task<'_>, names: &[&str]
 
 /// Runs over an input, and gives the exit status and whether a write failed, after which no other
 /// input follows.
-fn run_over(rt: &HostRuntime, task: Task<'_>, naming: Naming<'_>, input: Input) -> (u8, bool) {
+fn run_over(rt: &HostRuntime, task: &mut Task, naming: Naming<'_>, input: Input) -> (u8, bool) {
     match task {
         Task::Judge(action) => {
-            let outcome = judge(rt, action, naming, input);
+            let outcome = judge(rt, *action, naming, input);
             (exit_status(outcome), ends_run(outcome))
         }
-        Task::Search(..) if naming.is_among && !print_heading(rt, naming) => {
+        Task::Search(_) if naming.is_among && !print_heading(rt, naming) => {
             (exit_status(Outcome::Failed(Failure::WriteFailed)), true)
         }
-        Task::Search(request, finds) => (search(rt, naming.name, request, finds, input), false),
+        Task::Search(request) => (search(rt, naming.name, request, input), false),
     }
 }
 
@@ -418,21 +396,18 @@ fn print_heading(rt: &HostRuntime, naming: Naming<'_>) -> bool {
 
 /// Finds the programs in an image that may have a name, or makes a deck of it, and gives the exit
 /// status.
-fn search(
-    rt: &HostRuntime,
-    name: Option<&str>,
-    request: &ImageRequest<'_>,
-    finds: bool,
-    input: Input,
-) -> u8 {
-    // the options were read before, so only memory can be refused
-    let Ok(options) = options_of(rt.alloc(), &request.words) else {
-        return report_on(rt, name, Outcome::Failed(Failure::OutOfMemory));
-    };
-    let mut errors = Watched::new(rt.stderr());
+fn search(rt: &HostRuntime, name: Option<&str>, request: &mut ImageRequest, input: Input) -> u8 {
     let is_placed = request.is_placed;
-    match take_image(rt.alloc(), name, options, is_placed, input, &mut errors) {
-        Ok((options, image)) => exit_status(answer_on(rt, name, &options, finds, image)),
+    let mut errors = Watched::new(rt.stderr());
+    match take_image(
+        rt.alloc(),
+        name,
+        &mut request.options,
+        is_placed,
+        input,
+        &mut errors,
+    ) {
+        Ok(image) => exit_status(answer_on(rt, name, &request.options, request.finds, image)),
         Err(status) => status,
     }
 }

@@ -96,7 +96,6 @@ pub extern "C" fn chanv_check_write(
     out: &mut CRefusal,
 ) -> u32
     ensures spared { result ≡ YES → IsKeeperOf in_flight.now area.now None }
-    ensures free { IsKeeperOf in_flight.now area.now None → result ≡ YES }
 
     // If what is remembered of those in flight is true, the history goes on with what is written.
     ensures well { result ≡ YES → WritesWell in_flight.now area.now }

@@ -1,7 +1,7 @@
 //! Every command over one text, which may be a deck.
 
 use crate::{Came, ask, came, check_least};
-use chan_args::{Action, Explained};
+use chan_args::{Action, Asked};
 use chan_deck::{read_deck, write_deck};
 use kit::alloc::Global;
 
@@ -12,8 +12,8 @@ const OF_THE_VERDICT: [Action; 5] = [
     Action::List { wide: false },
     Action::List { wide: true },
     Action::Graph,
-    Action::Why(Explained::First),
-    Action::Why(Explained::All),
+    Action::Why(Asked::First),
+    Action::Why(Asked::All),
 ];
 
 pub fn check(text: &[u8]) {
@@ -78,8 +78,8 @@ fn check_needs(text: &[u8], of_verdict: Came) {
 fn check_offence(text: &[u8], line: &[u8]) {
     let digits = std::str::from_utf8(&line[3..9]).unwrap();
     let address = u32::from_str_radix(digits, 16).unwrap();
-    let why = ask(Action::Why(Explained::At(address)), text);
+    let why = ask(Action::Why(Asked::At(address)), text);
     assert_eq!(came(&why.outcome), Came::Denied);
     assert!(why.output.as_slice().starts_with(line), "the offence of the verdict");
-    ask(Action::Why(Explained::At(address.wrapping_add(8))), text);
+    ask(Action::Why(Asked::At(address.wrapping_add(8))), text);
 }

@@ -2,8 +2,8 @@
 
 use crate::{Came, ask, came, check_least};
 use ccw_core::{Area, Watched};
-use chan_args::{Action, RequestedJob};
-use chan_run::{ImageOptions, Outcome, find_programs, make_deck};
+use chan_args::{Action, ImageOptions, RequestedJob};
+use chan_run::{Outcome, find_programs, make_deck};
 use chan_walk::Limit;
 use ckd_core::{Device, Extents, FileMask};
 use kit::alloc::Global;

@@ -5,7 +5,7 @@
 use crate::run::devices::Broken;
 use crate::shared::{Paper, expect, paper_of};
 use ccw_core::Watched;
-use chan_args::{Action, Explained};
+use chan_args::{Action, Asked};
 use chan_run::{Failure, Naming, Outcome, Response, deliver, ends_run, judge_deck};
 use std::alloc::Global;
 
@@ -62,7 +62,7 @@ fn is_answered(alloc: Global, case: &Case) -> bool {
         flushes: case.flushes,
     });
     let mut errors = Watched::new(paper_of(case.told));
-    let action = Action::Why(Explained::First);
+    let action = Action::Why(Asked::First);
     let naming = Naming {
         name: case.name,
         is_among: false,

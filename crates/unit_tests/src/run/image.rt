@@ -4,9 +4,10 @@
 
 use crate::run::devices::Broken;
 use crate::shared::{expect, paper_of};
-use ccw_core::Watched;
-use chan_args::{ImageWords, RequestedJob};
-use chan_run::{Failure, ImageOptions, Outcome, make_deck, options_of};
+use ccw_core::{Area, Watched};
+use chan_args::{ImageOptions, RequestedJob};
+use chan_run::{Failure, Outcome, make_deck};
+use ckd_core::{Device, Extents, FileMask};
 use std::alloc::{AllocError, Global};
 
 /// A No Operation, after two bytes of the image.
@@ -35,17 +36,21 @@ end
 ";
 
 /// Two bytes before the program, for which 16 bytes are lent for fetching.
-fn words(alloc: Global, job: RequestedJob) -> Result<ImageWords<'static>, AllocError> {
-    Ok(ImageWords {
-        device: "2314",
-        mask: "00",
-        start: "800",
+fn options(alloc: Global, job: RequestedJob) -> Option<ImageOptions> {
+    let area = Area {
+        start: 0x900,
+        len: 0x10,
+    };
+    Some(ImageOptions {
+        device: Device::D2314,
+        mask: FileMask::new(0)?,
+        start: 0x800,
         limit: None,
-        extents: vec![in alloc; "10-19"]?,
-        fetch: vec![in alloc; "900+10"]?,
+        extents: Extents::new(alloc, &[(10, 19)]).ok()?,
+        fetch: vec![in alloc; area].ok()?,
         store: Vec::new(alloc),
-        at: "7FE",
-        storage: None,
+        at: 0x7FE,
+        size: None,
         job,
     })
 }
@@ -61,12 +66,9 @@ struct Made<'a> {
 /// Whether this comes of the image when a read fails, with the job that is said or with the least.
 /// A write after the text fails.
 fn is_made(alloc: Global, job: RequestedJob, failing: usize, made: &Made) -> bool {
-    let Ok(words) = words(alloc, job) else {
-        return false;
-    };
-    match options_of(alloc, &words) {
-        Ok(options) => is_answered(alloc, &options, failing, made),
-        Err(_) => false,
+    match options(alloc, job) {
+        Some(options) => is_answered(alloc, &options, failing, made),
+        None => false,
     }
 }
 

@@ -6,7 +6,7 @@ use crate::deck::{SEARCH_LOOP, SEARCH_LOOP_LISTING};
 use crate::run::devices::Broken;
 use crate::shared::{expect, paper_of};
 use ccw_core::Watched;
-use chan_args::{Action, Explained};
+use chan_args::{Action, Asked};
 use chan_run::{RunError, Status, run};
 use std::alloc::Global;
 
@@ -98,7 +98,7 @@ static WRITTEN: [(Action, &str, &str); 3] = [
         SEARCH_LOOP_LISTING,
     ),
     (
-        Action::Why(Explained::First),
+        Action::Why(Asked::First),
         END_OF_STORAGE,
         END_OF_STORAGE_EXPLANATION,
     ),

@@ -1,7 +1,7 @@
 //! How words are shown.
 
 use crate::shared::expect;
-use chan_run::shown_word;
+use chan_args::shown_word;
 use std::alloc::Global;
 
 /// A word, and how it is shown.

@@ -1,7 +1,7 @@
 use Rattle.std.proofs.Common.{◌∙◌, rules, sym}
 use Rattle.std.proofs.lemmas.Bool.{cond-false, cond-true}
 use Rattle.std.proofs.lemmas.List.{take_all}
-use Rattle.chan_run.specs.Options.{digits_in}
+use Rattle.chan_run.specs.OneCcw.{digits_in}
 use Rattle.chan_run.proofs.named_ccw.digits_of.Goals as goal
 
 pub returns-then-begins_with_0x : goal.returns-then-begins_with_0x

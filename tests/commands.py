@@ -1,0 +1,91 @@
+#!/usr/bin/env python3
+"""The copies of the table of commands: with --write they are written, otherwise compared.
+
+The table is in crates/chan_args/src/command_table.rt. Its copies are the usage of the program there,
+the synopsis of the manual, and the commands and options of the completions.
+"""
+
+import re
+import sys
+from pathlib import Path
+from typing import NamedTuple
+
+ROOT = Path(__file__).resolve().parent.parent
+TABLE = ROOT / "crates/chan_args/src/command_table.rt"
+PAGE, COMPLETIONS = ROOT / "docs/chanv.1", ROOT / "docs/chanv.bash"
+FIRST, LAST = "    # the table of commands: tests/commands.py\n", "    # end of the table\n"
+
+
+class Command(NamedTuple):
+    name: str
+    usage: list
+    # the name of each option, and what help calls its value
+    options: dict
+
+
+def words_in(text):
+    found = re.findall(r'name: "(\w+)",\s+given: Given::(\w+).*?value: "(.*?)"', text, re.S)
+    return {name: value for name, given, value in found if value or given == "Flag"}
+
+
+def commands(text):
+    """The commands of the table, in its order."""
+    named = dict(re.findall(r"(?ms)^const (\w+): (?:Word|&\[Word\]) = (.*?);$", text))
+    rows = re.findall(r'(?s)CommandRow \{\s+name: "(\w+)".*?usage: "(.*?)",\s+words: (.*?),\n', text)
+    for name, usage, words in rows:
+        words = named.get(words, words)
+        words = re.sub(r"\b[A-Z_]{2,}\b", lambda it: named.get(it[0], it[0]), words)
+        yield Command(name, usage.split("\n       "), words_in(words))
+
+
+def replaced(text, front, back, middle):
+    """A text with another part between two."""
+    before, _, rest = text.partition(front)
+    _, _, after = rest.partition(back)
+    return f"{before}{front}{middle}{back}{after}"
+
+
+def synopsis_line(line):
+    """A line of usage in the macros of man: what is typed is bold, and what stands for it italic."""
+    parts = re.findall(r"<[A-Z][A-Z-]*>|[A-Z]{3,}(?:-[A-Z]+)?|[\[\]|<>.]+|[^\[\]|<>A-Z.]+", line)
+    out, font = ".B ", "B"
+    for part in parts:
+        kind = "I" if re.search("[A-Z]", part) else "R" if re.match(r"[\[\]|<>.]", part) else "B"
+        part = part.strip("<>") if kind == "I" else part.replace("<", "").replace(">", "")
+        if not part:
+            continue
+        if kind != font and part != " ":
+            out, font = out + f"\\f{kind}", kind
+        out += part.replace("-", "\\-")
+    return out
+
+
+def copies():
+    """Each file that has a copy, with the text that it should have."""
+    text = TABLE.read_text()
+    table = list(commands(text))
+    usage = "\n       ".join(line for it in table for line in it.usage)
+    yield TABLE, replaced(text, 'const USAGE: &str = "', '";', usage)
+    lines = [synopsis_line(line) for it in table for line in it.usage]
+    lines.append(".B chanv help \\fR[\\fICOMMAND\\fR]")
+    page = PAGE.read_text()
+    yield PAGE, replaced(page, ".SH SYNOPSIS\n.nf\n", ".fi\n", "".join(f"{it}\n" for it in lines))
+    block = f"    local commands='{' '.join(it.name for it in table)} help'\n    local -A options=(\n"
+    for it in table:
+        block += f"        [{it.name}]='{' '.join(f'--{name}' for name in it.options)}'\n"
+    valued = sorted({f"--{name}" for it in table for name, value in it.options.items() if value})
+    block += f"    )\n    local valued='{' '.join(valued)}'\n"
+    yield COMPLETIONS, replaced(COMPLETIONS.read_text(), FIRST, LAST, block)
+
+
+def check(checks, _built):
+    for path, text in copies():
+        checks.expect(f"the copy of the table of commands in {path.name}", text, path.read_text())
+
+
+if __name__ == "__main__":
+    for path, text in copies():
+        if "--write" in sys.argv:
+            path.write_text(text)
+        elif path.read_text() != text:
+            sys.exit(f"{path}: run tests/commands.py --write")
