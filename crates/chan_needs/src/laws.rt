@@ -15,17 +15,14 @@ ghost use Rattle.chan_needs.specs.Staying.{AnswerStays, HeldStaysTrue, NeedsStay
 ghost use Rattle.chan_needs.specs.Supervised.{CanBeSupervised, LastingKeeps, LastingWrites};
 ghost use Rattle.chan_needs.specs.Supervised.{SupervisedGoesOn, SupervisedStaysWell};
 
-/// Programs may start and leave at any time on one storage, while others change bytes that no
-/// program in flight guards. If each program that starts has a yes and is compatible with the
-/// programs in flight, each program in flight is safe, and what it guards is as it was when it got
-/// its verdict.
+/// In each situation of every history each program in flight is safe, and its guarded bytes are as
+/// they were.
 #[tactic(auto, using(crate::proofs::History::stays_well))]
 pub(crate) fn stays_well()
     ensures { StaysWell }
 {}
 
-/// Two programs that run side by side are safe if both verdicts are yes and neither may store over
-/// what the other guards.
+/// Two compatible jobs with valid masks are both safe when they run at once.
 #[tactic(auto, using(crate::proofs::SideBySide::safe_side_by_side))]
 pub(crate) fn safe_side_by_side()
     ensures { SafeSideBySide }
@@ -42,14 +39,14 @@ pub(crate) fn open_job_grants_more()
     ensures { OpenJobGrantsMore }
 {}
 
-/// The least job: the verdict on a job of a program is yes exactly if the open job has a yes and
-/// the job grants what the program needs.
+/// A proper job has a yes exactly if the open job of its program has a yes and the job grants the
+/// needs.
 pub(crate) fn least_job()
     ensures { LeastJob }
 {}
 
-/// One question is enough: the answer holds over every storage of the same length that is equal in
-/// every kept byte.
+/// If the open job has a yes, a job that grants the needs has a yes over every storage of the same
+/// length that is equal in every kept byte.
 pub(crate) fn asked_once()
     ensures { AskedOnce }
 {}
@@ -70,35 +67,37 @@ pub(crate) fn needed_mask_exists()
     ensures { NeededMaskExists }
 {}
 
-/// If the verdict on the open job is no, no job of the program has a yes.
+/// If the open job has a no, no proper job of the program has a yes.
 pub(crate) fn no_job_will_do()
     ensures { NoJobWillDo }
 {}
 
-/// Every run is safe and the job is steady exactly if the verdict on the open job is yes and the
-/// job grants the needs.
+/// Every run of a proper job is safe and the job is steady exactly if the open job has a yes and
+/// the job grants the needs.
 pub(crate) fn safe_is_granted()
     ensures { SafeIsGranted }
 {}
 
-/// Two programs are compatible exactly if two of their jobs, each with a yes, are.
+/// Two programs are compatible exactly if two proper jobs of them, each with a yes, are.
 #[tactic(auto, using(crate::proofs::Compatible::compatible_by_jobs))]
 pub(crate) fn compatible_by_jobs()
     ensures { CompatibleByJobs }
 {}
 
-/// A program that was asked about may start if its kept bytes are unchanged and its needs granted.
+/// A program whose open job has a yes may start under a proper job that grants its needs while
+/// storage holds the kept bytes, if it is compatible with each program in flight.
 pub(crate) fn asked_may_start()
     ensures { AskedMayStart }
 {}
 
-/// A job that fits what is remembered of its program satisfies every premise of `asked_may_start`.
+/// A program that is remembered, and a job that fits what is remembered of it, satisfy every
+/// premise of `asked_may_start`.
 pub(crate) fn fit_is_asked()
     ensures { FitIsAsked }
 {}
 
-/// A job fits what is remembered if its storage holds the kept bytes, it grants what the program
-/// needs, and the program may run beside each program in flight.
+/// A job that grants the needs over storage that holds the kept bytes fits what is remembered of
+/// its program, if the program may run beside each program in flight.
 pub(crate) fn remembered_is_fit()
     ensures { RememberedIsFit }
 {}
@@ -155,28 +154,31 @@ pub(crate) fn each_may_leave()
     ensures { EachMayLeave }
 {}
 
-/// All programs in flight are well under a supervisor that starts programs only after a yes of
-/// `may_start`, and lets others write only if `may_write` names no program.
+/// In each situation of a supervised history each program in flight is safe, and its guarded bytes
+/// are as they were.
 #[tactic(auto, using(crate::proofs::Supervising::supervised_stays_well))]
 pub(crate) fn supervised_stays_well()
     ensures { SupervisedStaysWell }
 {}
 
-/// Each start and write that the calls allow can happen, and each step and each end.
+/// Each start and write that the calls allow can happen, and so can each step and end.
 #[tactic(auto, using(crate::proofs::GoingOn::supervised_goes_on))]
 pub(crate) fn supervised_goes_on()
     ensures { SupervisedGoesOn }
 {}
 
-/// While a write that lasts is in the table, no program that keeps a byte of its area starts; so
-/// others may write into the area at each moment.
+/// A row that only stores over an area stands for a write that lasts, and it may begin when
+/// `may_write` names no program; while each question is about a table with it, no program that
+/// keeps a byte of the area starts, so others may write there at each moment.
 #[tactic(auto, using(crate::proofs::Lasting::lasting_writes))]
 pub(crate) fn lasting_writes()
     ensures { LastingWrites }
 {}
 
-/// While bytes that last are in the table, no program that stores over their area starts, and each
-/// step of supervision leaves them as they were.
+/// A row that only keeps an area stands for bytes that last, and it may join the table when it is
+/// compatible with all programs there; while each question is about a table with it, no program
+/// that stores over the area starts, and each start, step, end and write leaves the bytes as they
+/// were.
 #[tactic(auto, using(crate::proofs::Lasting::lasting_keeps))]
 pub(crate) fn lasting_keeps()
     ensures { LastingKeeps }
@@ -190,22 +192,21 @@ pub(crate) fn can_be_supervised()
     ensures { CanBeSupervised }
 {}
 
-/// Needs depend on the kept bytes alone: they are equal over every storage of the same length with
-/// the same kept bytes.
+/// If some job will do, needs depend on nothing in storage but its length and the kept bytes.
 #[tactic(auto, using(crate::proofs::Staying::needs_stay))]
 pub(crate) fn needs_stay()
     ensures { NeedsStay }
 {}
 
-/// So needs found over a copy of the kept bytes are true of each storage that holds these bytes,
-/// whatever was written while they were copied.
+/// What was remembered over one storage is true of each storage of the same length with the same
+/// kept bytes.
 #[tactic(auto, using(crate::proofs::Staying::held_stays_true))]
 pub(crate) fn held_stays_true()
     ensures { HeldStaysTrue }
 {}
 
-/// The answer of `may_start` is the same over every storage of the same length with the same kept
-/// bytes: a yes survives each write to other bytes.
+/// The answer of `may_start` is the same over each storage of the same length that is equal where
+/// the program keeps bytes: a yes survives each write to other bytes.
 #[tactic(auto, using(crate::proofs::Staying::answer_stays))]
 pub(crate) fn answer_stays()
     ensures { AnswerStays }

@@ -16,13 +16,13 @@ ghost use Rattle.chan_walk.specs.OpenJob.{MoreIsYes, OpenJobIsOpen, SameUnderYes
 ghost use Rattle.chan_walk.specs.Order.{NumbersIncrease};
 ghost use Rattle.chan_walk.specs.Verdict.{OneVerdict};
 
-/// Where the verdict is yes, guarded bytes never change.
+/// Where the verdict is yes, guarded bytes never change, in any run among others.
 #[tactic(auto, using(crate::proofs::Machine::Yes::guarded_stays))]
 pub(crate) fn guarded_stays()
     ensures { GuardedStays }
 {}
 
-/// Where the verdict is yes, every place of every run is reachable.
+/// Where the verdict is yes, every place of every run among others is reachable.
 #[tactic(auto, using(crate::proofs::Machine::Yes::stays_reachable))]
 pub(crate) fn stays_reachable()
     ensures { StaysReachable }
@@ -35,14 +35,14 @@ pub(crate) fn gathers_arguments()
     ensures { GathersArguments }
 {}
 
-/// Where the verdict is yes, every run is safe and the job is steady.
+/// Where the verdict is yes and the mask is valid, every run is safe and the job is steady.
 #[tactic(auto, using(crate::proofs::Machine::Yes::yes_is_safe))]
 pub(crate) fn yes_is_safe()
     ensures { YesIsSafe }
 {}
 
-/// Where the verdict is yes, every run among others that change no guarded byte is safe too, and
-/// the job is steady in them.
+/// Where the verdict is yes and the mask is valid, every run among others is safe, and the job is
+/// steady in these runs.
 #[tactic(auto, using(crate::proofs::Machine::Yes::yes_is_safe_among))]
 pub(crate) fn yes_is_safe_among()
     ensures { YesIsSafeAmong }
@@ -55,15 +55,16 @@ pub(crate) fn each_path_is_run()
     ensures { EachPathIsRun }
 {}
 
-/// Each path to an offending place is a witness: a run over exactly this path, which changes
-/// nothing on the way, shows the reason there.
+/// Each path of a proper job to a place that offends is a witness: a run over exactly its places,
+/// on which nothing changes before the last, shows the reason there.
 #[tactic(auto, using(crate::proofs::Machine::Alarm::each_path_shows))]
 pub(crate) fn each_path_shows()
     ensures { EachPathShows }
 {}
 
-/// From each moment at which a CCW is carried out, whatever the device may move, wherever the arm,
-/// the mask and the program may go, and that it ends: some step does just that.
+/// Where a CCW is carried out, whichever bytes the device moves, up to the count, wherever the arm
+/// may then be and whichever mask may be in force: some step does just that, and ends the program
+/// or leads to any place that may follow; a fetch may take the whole data range.
 #[tactic(auto, using(crate::proofs::Machine::Free::machine_is_free))]
 pub(crate) fn machine_is_free()
     ensures { MachineIsFree }
@@ -75,7 +76,8 @@ pub(crate) fn stored_is_there()
     ensures { StoredIsThere }
 {}
 
-/// What is said to be set at a place can be set there by a step.
+/// Where a CCW is carried out, the cylinder or mask that a row of a path says is set there can be
+/// set by a step: a cylinder if one CCW has the whole argument, a byte if it is a mask.
 #[tactic(auto, using(crate::proofs::Machine::Free::setting_can_be))]
 pub(crate) fn setting_can_be()
     ensures { SettingCanBe }
@@ -92,12 +94,13 @@ pub(crate) fn one_verdict()
     ensures { OneVerdict }
 {}
 
-/// The first of a job's offences is the verdict, and yes where there is none.
+/// The first of a job's offences is the verdict; where there is none, the verdict is yes.
 pub(crate) fn first_is_verdict()
     ensures { FirstIsVerdict }
 {}
 
-/// Where the verdict is no, a run comes to a place with its address and shows its reason there.
+/// Where the verdict on a proper job is no, a run comes to a place with its address and shows its
+/// reason there.
 #[tactic(auto, using(crate::proofs::Machine::Alarm::no_false_alarm))]
 pub(crate) fn no_false_alarm()
     ensures { NoFalseAlarm }
@@ -108,24 +111,25 @@ pub(crate) fn harmless_is_safe()
     ensures { HarmlessIsSafe }
 {}
 
-/// What is shown for a reason does harm, and breaks a promise in the way of the reason.
+/// A run that shows a reason goes on to a moment that does harm, and breaks a promise in the way of
+/// the reason.
 #[tactic(auto, using(crate::proofs::Machine::Harm::shown_breaks))]
 pub(crate) fn shown_breaks()
     ensures { ShownBreaks }
 {}
 
-/// Where the verdict is no, some run does harm.
+/// Where the verdict on a proper job is no, some run does harm.
 pub(crate) fn no_is_harm()
     ensures { NoIsHarm }
 {}
 
-/// A job that is safe in every run and steady has the verdict yes.
+/// A proper job that is safe in every run and steady has the verdict yes.
 pub(crate) fn safe_is_yes()
     ensures { SafeIsYes }
 {}
 
-/// Where the verdict is yes, the guarded bytes are those that some run uses, and among others no
-/// run uses another.
+/// Where the verdict on a proper job is yes, the guarded bytes are exactly those that some run
+/// uses, and no run among others uses any other byte.
 pub(crate) fn guarded_is_used()
     ensures { GuardedIsUsed }
 {}
@@ -137,7 +141,8 @@ pub(crate) fn stays_safe()
     ensures { StaysSafe }
 {}
 
-/// Whatever answers yes only for safe and steady jobs answers yes only where the verdict is yes.
+/// A verifier that says yes only to safe and steady jobs says yes to a proper job only if the
+/// verdict is yes; so up to the limit on places, no verifier that is right says yes more often.
 pub(crate) fn headline_alone_is_enough()
     ensures { HeadlineAloneIsEnough }
 {}
@@ -148,46 +153,50 @@ pub(crate) fn numbers_increase()
     ensures { NumbersIncrease }
 {}
 
-/// The verdict depends on nothing in storage but its length and the verdict bytes.
+/// Over a storage of the same length that is equal in every verdict byte, the reachable places and
+/// the verdict are the same.
 pub(crate) fn same_verdict()
     ensures { SameVerdict }
 {}
 
 /// Where the first CCW has an own fault, and begins neither a seek nor Set File Mask, the verdict
-/// rests on its eight bytes alone.
+/// bytes are its eight bytes.
 pub(crate) fn faulty_start_is_all()
     ensures { FaultyStartIsAll }
 {}
 
-/// Under a yes each verdict byte is guarded.
+/// Where the verdict is yes, each verdict byte is guarded.
 pub(crate) fn verdict_byte_is_guarded()
     ensures { VerdictByteIsGuarded }
 {}
 
-/// A yes depends on nothing in storage but its length and the guarded bytes.
+/// Where the verdict is yes, it is yes over every storage of the same length that is equal in every
+/// guarded byte.
 pub(crate) fn yes_by_guarded()
     ensures { YesByGuarded }
 {}
 
-/// Where the verdict is yes, and from the question on nothing else writes a guarded byte, every run
-/// is safe and the job is steady, over what storage holds at the start.
+/// Where the verdict is yes and the mask is valid, the question may come before the start: if from
+/// then on nothing else writes a guarded byte, every run is safe and the job is steady, over what
+/// storage holds at the start.
 pub(crate) fn safe_since_asked()
     ensures { SafeSinceAsked }
 {}
 
-/// Where the verdict is yes, it is yes over what storage holds at any moment of any run, so that
-/// the program may start again.
+/// Where the verdict is yes, it is yes over storage at any moment of any run among others, so the
+/// program may start again.
 #[tactic(auto, using(crate::proofs::Machine::Again::yes_stays))]
 pub(crate) fn yes_stays()
     ensures { YesStays }
 {}
 
-/// Granting more never turns a yes into a no.
+/// If a job has a yes, each job of the program that grants at least as much has a yes.
 pub(crate) fn more_is_yes()
     ensures { MoreIsYes }
 {}
 
-/// Two jobs of one program with a yes have the same reachable places and the same guarded bytes.
+/// Two jobs of one program, each with a yes, have the same reachable places and the same guarded
+/// bytes.
 pub(crate) fn same_under_yes()
     ensures { SameUnderYes }
 {}

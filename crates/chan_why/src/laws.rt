@@ -4,27 +4,28 @@
 ghost use Rattle.chan_why.specs.Hang.{EndlessMayHang, HangGoesOn, HangLasts, HangStays, HangsAlike};
 ghost use Rattle.chan_why.specs.Hang.{OneFirstHang, SomeRunEnds, StepsOnUnlessItEnds};
 
-/// Where the verdict is yes, a run among others that change no guarded byte never comes from a
-/// place that can't end to one that can.
+/// Where the verdict is yes, after a moment of a run among others at a place that can't end, no
+/// later place can end.
 #[tactic(auto, using(crate::proofs::Hanging::hang_lasts))]
 fn hang_lasts()
     ensures { HangLasts }
 {}
 
-/// Where the verdict is yes, a run that has been at a place that can't end goes on: from each later
-/// moment at a place some step leads to a place.
+/// Where the verdict is yes, after a moment of a run among others at a place that can't end, some
+/// step leads to a place from each later moment at a place, over storage of bytes.
 fn hang_goes_on()
     ensures { HangGoesOn }
 {}
 
-/// From each reachable place that can end some run comes to a place that ends the program.
+/// From each reachable place of a proper job that can end, some run comes to a place that ends the
+/// program.
 #[tactic(auto, using(crate::proofs::Hanging::some_run_ends))]
 fn some_run_ends()
     ensures { SomeRunEnds }
 {}
 
-/// Where the verdict is yes, from each moment of a run among others at a place some step leads on
-/// to a place exactly if this one doesn't end the program.
+/// Where the verdict is yes, at each moment of a run among others at a place, over storage of
+/// bytes, some step leads to a place exactly if this place doesn't end the program.
 #[tactic(auto, using(crate::proofs::Hanging::steps_on_unless_it_ends))]
 fn steps_on_unless_it_ends()
     ensures { StepsOnUnlessItEnds }
@@ -35,8 +36,8 @@ fn endless_may_hang()
     ensures { EndlessMayHang }
 {}
 
-/// A program with a yes may hang at the same places over each storage that is as long and the same
-/// in each guarded byte.
+/// A program with a yes may hang at the same places over each storage of the same length that is
+/// equal in every guarded byte.
 fn hang_stays()
     ensures { HangStays }
 {}
