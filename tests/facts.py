@@ -1,4 +1,7 @@
+#!/usr/bin/env python3
 """What two pages say is the same on both, and counts are those of the repository.
+
+    tests/facts.py --write    writes the table of TESTING, which says what each test shows
 
 Each fact is on one page, and others link to it. Few are on two, because a reader needs them on
 both: the premises of the theorem, which the header lists as THEOREM does, the manual in short, and
@@ -15,7 +18,9 @@ rows/header.txt, under what it is about and the tests that show what it says. So
 only together with that line, and with a look at these tests.
 """
 
+import ast
 import re
+import sys
 
 import model
 import peer
@@ -282,6 +287,23 @@ def check_counts(checks):
         checks.expect_that(f"{name} says forty", "forty codes" in text_of(ROOT / name), "no forty")
 
 
+def tested():
+    """The table of TESTING: the first lines of each test, in the order of their names."""
+    listed = re.findall(r'(?m)^    "(\w+)",$', text_of(HERE / "run").partition("]")[0])
+    for name in sorted(listed):
+        comment = ast.get_docstring(ast.parse(text_of(HERE / f"{name}.py")))
+        said = " ".join(comment.split("\n\n")[0].split()).removesuffix(".")
+        yield f"| `{name}` | {said} |"
+
+
+TABLE = re.compile(r"(?s)(?<=\| test \| shows \|\n\|---\|---\|\n).*?(?=\n\n)")
+
+
+def check_tested(checks):
+    table = TABLE.search(text_of(DOCS / "TESTING.md"))[0]
+    checks.expect("what TESTING says of each test", [*tested()], table.splitlines())
+
+
 def check_kit(checks):
     kit = re.search(r"(?m)^KIT = (\S+)", text_of(ROOT / "Makefile"))[1]
     checks.expect_that("README names the kit", f"`{kit}`" in text_of(ROOT / "README.md"), kit)
@@ -306,4 +328,10 @@ def check(checks, _built):
     check_walks(checks)
     check_crates(checks)
     check_counts(checks)
+    check_tested(checks)
     check_kit(checks)
+
+
+if __name__ == "__main__" and sys.argv[1:] == ["--write"]:
+    PAGE = DOCS / "TESTING.md"
+    PAGE.write_text(TABLE.sub(lambda _: "\n".join(tested()), text_of(PAGE)))
