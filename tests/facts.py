@@ -246,6 +246,16 @@ def check_walks(checks):
     checks.expect("how often chanv_take_in walks", [["once", "twice"][walks - 1]] * 2, said)
 
 
+def check_texts(checks):
+    """`chan_run` makes no text of more than 14 characters but a failure's, and those of errors."""
+    for path in sorted((ROOT / "crates/chan_run/src").glob("*.rt")):
+        if path.name != "failure.rt":
+            code = re.sub(r"(?m)^ *(//|#\[error).*$", "", text_of(path))
+            texts = [re.sub(r"\{\w*\}", "", it) for it in re.findall(r'"((?:[^"\\]|\\.)*)"', code)]
+            long = [it for it in texts if len(it) > 14]
+            checks.expect(f"long texts of {path.name}", [], long)
+
+
 def check_crates(checks):
     """PROOF and the picture of the crates call what each is by the same words."""
     table = section("PROOF.md", "What is proved, by crate")
@@ -326,6 +336,7 @@ def check(checks, _built):
     check_manual(checks)
     check_machine_stores(checks)
     check_walks(checks)
+    check_texts(checks)
     check_crates(checks)
     check_counts(checks)
     check_tested(checks)

@@ -1,4 +1,4 @@
-//! The notes on an image of storage that is a deck, or that has no program.
+//! The notes on an image of storage that is a deck, or that has no program, and on its device.
 
 ghost use Rattle.std.specs.Prelude.{◌≡◌};
 ghost use Rattle.chan_deck.specs.ImageNote as notes;
@@ -20,6 +20,9 @@ const GIVE_STORAGE: &str =
     "note: no program found; if storage goes on behind the image, give --storage\n";
 
 const GIVE_NOTHING: &str = "note: no program found\n";
+
+/// The note on a deck for which no device is named.
+pub const USUAL_DEVICE: &str = "note: no --device, so 2314\n";
 
 /// Whether an image begins as a deck does.
 pub(crate) fn is_deck(image: &[u8]) -> bool

@@ -60,7 +60,7 @@ pub use crate::error::DeckError;
 pub use crate::explanation::{explanation_text, why_text};
 pub use crate::graph::graph_text;
 pub use crate::hint::hint_text;
-pub use crate::image_note::{deck_note, find_note};
+pub use crate::image_note::{USUAL_DEVICE, deck_note, find_note};
 pub use crate::listing::{ListError, ccw_line, listing_text, row_text, write_listing};
 pub use crate::named_word::spelled_text;
 pub use crate::needs::{in_six_digits, needs_text};

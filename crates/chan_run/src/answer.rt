@@ -193,7 +193,8 @@ pub(crate) fn no_job_text(
         ≡ no_job_line (name_in name.entry) ++ why.now) }
 {
     let (name, mark) = named(name, true);
-    Ok(format!(in alloc; "chanv: {name}{mark}no job will do: {why}")?)
+    let no_job = "no job will do";
+    Ok(format!(in alloc; "chanv: {name}{mark}{no_job}: {why}")?)
 }
 
 /// The hint on a line that is refused, for `Why`, for `Graph` and for any input with a name.

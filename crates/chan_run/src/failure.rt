@@ -6,6 +6,12 @@ ghost use Rattle.chan_run.specs.Failure.{failure_texts, texts_of_failure};
 /// A failure's line, the exit status, and whether the line names the input.
 type FailureTexts = (&'static str, u8, bool);
 
+/// What the line on a word without a meaning begins with, if another word is near.
+pub(crate) const UNKNOWN: &str = "chanv: no such word; the nearest is ";
+
+/// What ends that line.
+pub(crate) const LISTS_ALL: &str = ", and chanv explain lists all words\n";
+
 /// The line in place of an answer.
 #[derive(Clone, Copy, PartialEq, Eq, Debug)]
 pub enum Failure {

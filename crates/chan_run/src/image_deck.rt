@@ -12,6 +12,7 @@ ghost use Rattle.chan_run.specs.Texts.{WriterGot};
 ghost use Rattle.chan_run.specs.declared.failure.Failure.TheVariants as failures;
 ghost use Rattle.chan_run.specs.declared.outcome.Outcome.TheVariants.{Failed};
 ghost use Rattle.ccw_core.specs.declared.ccw.TheConstants.{STORAGE_LIMIT};
+ghost use Rattle.chan_deck.specs.declared.image_note.TheConstants.{USUAL_DEVICE};
 
 use crate::answer::no_job_text;
 use crate::delivery::deliver;
@@ -23,13 +24,10 @@ use crate::response::Response;
 use crate::texts::write_bytes;
 use ccw_core::Watched;
 use chan_args::ImageOptions;
-use chan_deck::{deck_note, image_notes, limit_note, room_note};
+use chan_deck::{USUAL_DEVICE, deck_note, image_notes, limit_note, room_note};
 use chan_walk::Limit;
 use std::alloc::{AllocError, Global};
 use std::io::{Read, Write};
-
-/// What is said of a deck for which no device is named.
-const USUAL_DEVICE: &str = "note: no --device, so 2314\n";
 
 /// Names the usual device, for a deck without a named one. If the writer fails, it has a prefix.
 pub fn note_usual_device<E: Write>(errors: &mut Watched<E>)

@@ -15,6 +15,7 @@ use crate::outcome::Outcome;
 use crate::response::Response;
 use hex::encode_upper;
 use std::alloc::{AllocError, Global};
+use thiserror::Error;
 
 /// A text without its blanks.
 fn without_blanks(alloc: Global, text: &[u8]) -> Result<Vec<u8>, AllocError>
@@ -49,21 +50,26 @@ fn digits_of(text: &[u8]) -> &[u8]
     }
 }
 
-/// Why digits aren't those of a CCW: the first that is none, or how many there are. Tests hold the
-/// text.
-fn fault_of(alloc: Global, digits: &[u8]) -> Result<String, AllocError>
+/// Why digits aren't those of a CCW. Tests hold the texts.
+#[derive(Clone, Copy, PartialEq, Eq, Debug, Error)]
+enum DigitsFault {
+    /// A character isn't a hexadecimal digit: the first of these.
+    #[error("'{0}' isn't a hexadecimal digit")]
+    NotDigit(char),
+    /// There are too few or too many: so many.
+    #[error("a CCW has 16 digits, and this has {0}")]
+    Count(usize),
+}
+
+/// The line that says why digits aren't those of a CCW.
+fn fault_line(alloc: Global, digits: &[u8]) -> Result<String, AllocError>
     ensures { IfOk result (λ text. string_bytes text ≢ []) }
 {
-    match digits.iter().find(|byte| !byte.is_ascii_hexdigit()) {
-        Some(byte) => {
-            let shown = char::from(*byte);
-            format!(in alloc; "'{shown}' isn't a hexadecimal digit\n")
-        }
-        None => {
-            let count = digits.len();
-            format!(in alloc; "a CCW has 16 digits, and this has {count}\n")
-        }
-    }
+    let fault = match digits.iter().find(|byte| !byte.is_ascii_hexdigit()) {
+        Some(byte) => DigitsFault::NotDigit(char::from(*byte)),
+        None => DigitsFault::Count(digits.len()),
+    };
+    format!(in alloc; "{fault}\n")
 }
 
 /// The answer to a text that spells a CCW: the line that shows it with the name of its command. The
@@ -144,7 +150,7 @@ fn shown_ccw(alloc: Global, digits: &[u8]) -> Result<Response, AllocError>
             note: "",
         }),
         Err(ShowError::NotCcw) => {
-            let fault = fault_of(alloc, digits)?;
+            let fault = fault_line(alloc, digits)?;
             Ok(Response {
                 outcome: Outcome::Failed(Failure::NotCcw),
                 output: Vec::new(alloc),

@@ -9,7 +9,7 @@ ghost use Rattle.chan_run.specs.Response.{outcome_of};
 ghost use Rattle.chan_run.specs.Texts.{WriterGot};
 ghost use Rattle.chan_run.specs.declared.outcome.Outcome.TheVariants.{Done, Failed, Refused};
 
-use crate::failure::Failure;
+use crate::failure::{Failure, LISTS_ALL, UNKNOWN};
 use crate::name::named;
 use crate::one_ccw::ShowError;
 use crate::texts::write_texts;
@@ -19,12 +19,6 @@ use chan_walk::{Reason, Verdict};
 use itoa::Buffer;
 use std::alloc::AllocError;
 use std::io::Write;
-
-/// What the line on a word without a meaning begins with, if another one's is near.
-const UNKNOWN: &str = "chanv: no such word; the nearest is ";
-
-/// What ends it.
-const LISTS_ALL: &str = ", and chanv explain lists all words\n";
 
 /// How a run of the program ended. The texts of help, of the version, of a usage fault and on a
 /// program that no job will do for are written before.
