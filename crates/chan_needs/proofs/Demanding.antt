@@ -1,6 +1,6 @@
 -- What a place that was looked at asks of the mask, and the strictest mask that serves many.
-use Rattle.chan_needs.proofs.Names.{[], and_from, and_parts, ap, AreBounds, AreLooksOfYes, arith, begins, begins_set_mask, begun, both_ways, byte, ccw_of, ccw_seen, class_passes, clear_good, clear_stands, false, Fields, get_or, Has, has_at, inhibits, inl, inr, is_at_least, is_fresh, IsClear, IsLook, Job, length, List, lookup, mask_is_no_transfer, MaskClass, MaskServesAt, min, None, not_from_false, Option, Place, places_of_looks, Recalibrate, refl, rules, Seek, seek_level, seek_level-le, SeekCylinder, SeekHead, Seen, Some, storage_of, strict-levels, subst, sym, true, write_level, write_level-le, yes_clear, ℕ, ◌++◌, ◌<◌, ◌↔◌, ◌∙◌, ◌∷◌, ◌≡◌, ◌≤◌, ◌⊎◌}
-use Rattle.ckd_core.specs.declared.command.MaskClass.TheVariants.{Plain, SetMask, WriteFormat, WriteHome, WriteUpdate}
+use Rattle.chan_needs.proofs.Names.{[], and_from, and_parts, ap, AreBounds, AreLooksOfYes, begins, begins_set_mask, begun, both_ways, byte, ccw_of, ccw_seen, class_passes, clear_good, clear_stands, false, Fields, get_or, Has, has_at, inhibits, inl, is_at_least, is_fresh, IsClear, IsLook, Job, length, List, lookup, mask_is_no_transfer, MaskClass, MaskServesAt, min, None, not_from_false, Place, places_of_looks, refl, rules, seek_level, Seen, Some, storage_of, strict-levels, subst, sym, true, write_level, yes_clear, ℕ, ◌++◌, ◌<◌, ◌↔◌, ◌∙◌, ◌∷◌, ◌≡◌}
+use Rattle.ckd_core.specs.declared.command.MaskClass.TheVariants.{SetMask}
 use Rattle.ckd_core.specs.Mask.{inhibits_class}
 use Rattle.ckd_core.specs.Command.{CommandEntry, class_sets_mask, sets_mask}
 use Rattle.chan_walk.specs.Operand.{byte_of}
@@ -9,7 +9,7 @@ use Rattle.chan_walk.proofs.Theory.Commands.{known_is_no_transfer}
 use Rattle.chan_walk.proofs.Theory.Lists.{has_cases, has_left, has_right}
 use Rattle.chan_walk.proofs.Algorithms.Looking.{byte_read, place_at}
 use Rattle.ckd_core.specs.Levels.{seeks_up_to, writes_up_to}
-use Rattle.ckd_core.proofs.LevelLemmas.{permits_when, seeks_up_to-le, strict-permits, writes_up_to-le}
+use Rattle.ckd_core.proofs.LevelLemmas.{permits_when, strict-permits}
 use Rattle.chan_needs.proofs.Masking.{bounds_of_any, bounds_of_both, bounds_same}
 
 -- ---- at one place
@@ -120,68 +120,6 @@ bounds_next j ps p w s v t f g =
 
     parts : (x : ℕ) → ServesEach j (ps ++ p ∷ []) x → ServesEach j ps x × MaskServesAt j p x
     parts x w = ((λ q k. w q (has_left ps (p ∷ []) q k)), w p (has_right ps (p ∷ []) p (inl refl)))
-
--- ---- at any clear place
-
--- there are such bounds
-pub record HasBounds (P : ℕ → Type 0) : Type 0 where
-  pub writes : ℕ
-  pub seeks : ℕ
-  pub few_writes : writes ≤ 3
-  pub few_seeks : seeks ≤ 3
-  pub are : AreBounds P writes seeks
-
-sets_or_not : (c : MaskClass) → (c ≡ SetMask) ⊎ (class_sets_mask c ≡ false)
-sets_or_not SetMask = inl refl
-sets_or_not Plain = inr refl
-sets_or_not Seek = inr refl
-sets_or_not SeekCylinder = inr refl
-sets_or_not SeekHead = inr refl
-sets_or_not Recalibrate = inr refl
-sets_or_not WriteHome = inr refl
-sets_or_not WriteFormat = inr refl
-sets_or_not WriteUpdate = inr refl
-
-demand_of : (j : Job) (p : Place) → IsClear j p → HasBounds (MaskServesAt j p)
-demand_of j p clear = go (begun p (ccw_of j p)) refl
-  where
-    of_command : (k : CommandEntry) → begun p (ccw_of j p) ≡ Some k → (k.class ≡ SetMask) ⊎ (class_sets_mask k.class ≡ false) → HasBounds (MaskServesAt j p)
-    of_command k h (inl same) =
-        let b = byte (storage_of j) (ccw_of j p).address in
-        let are = bounds_at_byte j p k h same clear in
-        record { writes = write_level b; seeks = seek_level b; few_writes = write_level-le b; few_seeks = seek_level-le b; are = are }
-    of_command k h (inr other) = record {
-      writes = writes_up_to k.class;
-      seeks = seeks_up_to k.class;
-      few_writes = writes_up_to-le k.class;
-      few_seeks = seeks_up_to-le k.class;
-      are = bounds_at_command j p k h other;
-    }
-
-    go : (o : Option CommandEntry) → begun p (ccw_of j p) ≡ o → HasBounds (MaskServesAt j p)
-    go None e = record { writes = 3; seeks = 3; few_writes = omega arith; few_seeks = omega arith; are = bounds_of_any (MaskServesAt j p) (serves_none j p e) }
-    go (Some k) e = of_command k e (sets_or_not k.class)
-
-pub demand_of_each : (j : Job) (ps : List Place) → ((p : Place) → Has ps p → IsClear j p) → HasBounds (ServesEach j ps)
-demand_of_each j [] clear = record { writes = 3; seeks = 3; few_writes = omega arith; few_seeks = omega arith; are = bounds_first j }
-demand_of_each j (p ∷ ps) clear =
-    let a = demand_of j p (clear p (inl refl)) in
-    let b = demand_of_each j ps (λ q h. clear q (inr h)) in
-    record {
-      writes = min a.writes b.writes;
-      seeks = min a.seeks b.seeks;
-      few_writes = omega (arith, a.few_writes);
-      few_seeks = omega (arith, a.few_seeks);
-      are = bounds_same (λ x. MaskServesAt j p x × ServesEach j ps x) (ServesEach j (p ∷ ps)) _ _ (λ x. (both x, parts x))
-          (bounds_of_both (MaskServesAt j p) (ServesEach j ps) a.writes a.seeks b.writes b.seeks a.are b.are);
-    }
-  where
-    both : (x : ℕ) → MaskServesAt j p x × ServesEach j ps x → ServesEach j (p ∷ ps) x
-    both x w q (inl e) = subst (λ r. MaskServesAt j r x) e w.0
-    both x w q (inr h) = w.1 q h
-
-    parts : (x : ℕ) → ServesEach j (p ∷ ps) x → MaskServesAt j p x × ServesEach j ps x
-    parts x w = (w p (inl refl), λ q h. w q (inr h))
 
 -- each place that was looked at under a yes is clear
 look_clear : (j : Job) (ls : List Seen) (p : Place) → AreLooksOfYes j ls → Has (places_of_looks ls) p → IsClear j p

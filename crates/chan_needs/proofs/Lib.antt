@@ -10,7 +10,6 @@ pub mod Supervising
 pub mod GoingOn
 pub mod Needed
 pub mod Demanding
-pub mod Existing
 pub mod Holding
 pub mod Leasts
 pub mod Inside

@@ -121,11 +121,6 @@ abbrev pub NeededMaskIsOne : Type 0
 NeededMaskIsOne =
     (j : Job) (mask other : ℕ) → IsNeededMask j mask → IsNeededMask j other → mask ≡ other
 
--- where the verdict on the open job is yes, there is a needed mask
-abbrev pub NeededMaskExists : Type 0
-NeededMaskExists =
-    (j : Job) → IsVerdict (open_job j) Yes → (mask : ℕ) × IsNeededMask j mask
-
 -- where the verdict on the open job is no, it is yes on no job of the program
 abbrev pub NoJobWillDo : Type 0
 NoJobWillDo =

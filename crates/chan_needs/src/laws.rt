@@ -3,9 +3,8 @@
 
 ghost use Rattle.chan_needs.specs.SideBySide.{MayRunTogether, SafeSideBySide};
 ghost use Rattle.chan_needs.specs.History.{GoesOnToStorage, StaysWell};
-ghost use Rattle.chan_needs.specs.Needs.{AskedOnce, LeastJob, NeededMaskIsEnough, NeededMaskExists};
-ghost use Rattle.chan_needs.specs.Needs.{NeededMaskIsOne, NoJobWillDo, OpenJobGrantsMore};
-ghost use Rattle.chan_needs.specs.Needs.{SafeIsGranted};
+ghost use Rattle.chan_needs.specs.Needs.{AskedOnce, LeastJob, NeededMaskIsEnough, NeededMaskIsOne};
+ghost use Rattle.chan_needs.specs.Needs.{NoJobWillDo, OpenJobGrantsMore, SafeIsGranted};
 ghost use Rattle.chan_needs.specs.Start.{ListedIsExact, OneAnswer, RememberedIsFit};
 ghost use Rattle.chan_needs.specs.Listed.{CompatibleByJobs};
 ghost use Rattle.chan_needs.specs.Asked.{AskedMayStart, EachMayLeave, EachMayStart, EachMayStep};
@@ -59,12 +58,6 @@ pub(crate) fn needed_mask_is_enough()
 /// There is at most one needed mask.
 pub(crate) fn needed_mask_is_one()
     ensures { NeededMaskIsOne }
-{}
-
-/// If the verdict on the open job is yes, there is a needed mask.
-#[tactic(auto, using(crate::proofs::Existing::needed_mask_exists))]
-pub(crate) fn needed_mask_exists()
-    ensures { NeededMaskExists }
 {}
 
 /// If the open job has a no, no proper job of the program has a yes.

@@ -17,12 +17,6 @@ write_level-le m = search rules
 pub seek_level-le : (m : ℕ) → seek_level m ≤ 3
 seek_level-le m = search rules
 
-pub writes_up_to-le : (c : MaskClass) → writes_up_to c ≤ 3
-writes_up_to-le c = search rules
-
-pub seeks_up_to-le : (c : MaskClass) → seeks_up_to c ≤ 3
-seeks_up_to-le c = search rules
-
 -- ---- a class is permitted up to its levels
 
 by_writes : (w : ℕ) (c : MaskClass) → inhibits_write w c ≡ nat_lt (writes_up_to c) (level_of_writes w)
