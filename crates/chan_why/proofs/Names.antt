@@ -2,7 +2,7 @@
 pub use Rattle.ccw_core.specs.Areas.{end_of}
 pub use Rattle.ccw_core.specs.Ccw.{Fields}
 pub use Rattle.ccw_core.specs.declared.areas.Area.{Area}
-pub use Rattle.chan_areas.specs.Merged.{AreExactly, IsByteIn, IsLeastOf, IsLeastOrNone}
+pub use Rattle.chan_areas.specs.Merged.{IsByteIn, IsLeastOf, IsLeastOrNone}
 pub use Rattle.chan_walk.proofs.Algorithms.Listing.{offence}
 pub use Rattle.chan_walk.proofs.Algorithms.Looking.{ccw_seen, look_of, number_of_places, own_clear, place_at, places_next, places_taken}
 pub use Rattle.chan_walk.proofs.Algorithms.Marks.{same_number}
@@ -34,7 +34,7 @@ pub use Rattle.chan_walk.specs.declared.reason.Reason.{Reason}
 pub use Rattle.chan_why.specs.Evidence.{IsArgumentIn, IsEvidenceAt, IsCcwIn}
 pub use Rattle.chan_why.specs.Finder.{IsIndex, IsOfKind, TakesByte, TakesSoFar}
 pub use Rattle.chan_why.specs.Hang.{AddsPredecessor, AreBuckets, ArePredecessors, bucket_of, BucketEndsAt, EndsAfter, EndsTheProgram, FindsMore, HasBefore, IsFirstPlace, IsLeftUnmarked, MarksFound, one_after}
-pub use Rattle.chan_why.specs.Notes.{ends_there, fills_spare, has_byte_of, has_machine_byte, interrupts, is_idle, moves_nothing}
+pub use Rattle.chan_why.specs.Notes.{ends_there, interrupts, is_idle, moves_nothing}
 pub use Rattle.chan_why.specs.Path.{IsFirstWhere, IsPathAt}
 pub use Rattle.chan_why.specs.SecondPath.{IsSecondPathEnd}
 pub use Rattle.chan_why.specs.Witness.{HasLikeOffence, IsOffenceEvidence, IsLastStore, IsStoredBefore, StoresAt}
@@ -44,9 +44,8 @@ pub use Rattle.ckd_core.specs.declared.command.Kind.{Kind}
 pub use Rattle.ckd_core.specs.declared.command.Kind.TheVariants.{Idle, Outward}
 pub use Rattle.std.proofs.Common.{[], ap, arith, Bool, eqb, false, get_or, inl, inr, IsSome, length, List, None, not, Option, refl, reverse, rules, set, slice_get, slice_index, Some, subst, suc, sym, take, true, zero, ℕ, ◌%◌, ◌&&◌, ◌++◌, ◌+◌, ◌-◌, ◌<◌, ◌↔◌, ◌∙◌, ◌∷◌, ◌≡◌, ◌≤◌, ◌⊎◌}
 pub use Rattle.std.proofs.lemmas.Bool.{and_from, both_ways, cases_eq, cases_lt}
-pub use Rattle.std.proofs.lemmas.List.{append_assoc, get_or_read, take_all}
+pub use Rattle.std.proofs.lemmas.List.{append_assoc, get_or_read}
 pub use Rattle.std.proofs.lemmas.Option.{slice_get-get_or, slice_get_read, slice_get_within}
-pub use Rattle.std.specs.List.{filter}
 pub use Rattle.std.specs.Ordering.{nat_cmp}
 unfoldable pub use Rattle.ccw_core.specs.Areas.{lies_in}
 unfoldable pub use Rattle.ccw_core.specs.Ccw.{chains_data, is_transfer}

@@ -1,82 +1,19 @@
--- Notes: areas lent in vain, and the addresses of CCWs that pass a test.
-use Rattle.chan_why.proofs.Names.{[], and_from, ap, Area, AreReached, arith, Bool, cases_lt, ccw_of, ccw_seen, chains_data, end_of, ends_there, Entry, eqb, false, Fields, filter, Has, has_byte_of, has_machine_byte, has_push, Idle, inl, inr, is_fresh, is_idle, is_known, is_transfer, IsLook, Job, Kind, kind_of, kind_of_command, lies_in, List, lookup, moves_nothing, next_of, None, not, Option, Outward, Place, refl, rules, Seen, Some, subst, suc, sym, true, zero, ℕ, ◌&&◌, ◌++◌, ◌+◌, ◌<◌, ◌↔◌, ◌∙◌, ◌∷◌, ◌≡◌, ◌≤◌, ◌⊎◌}
-use Rattle.std.proofs.Common.{max, nat_lt, IsTrue, is_some}
-use Rattle.std.specs.Cmp.Derive.{one_truth}
+-- Notes: the addresses of CCWs that pass a test.
+use Rattle.chan_why.proofs.Names.{[], ap, AreReached, Bool, ccw_of, ccw_seen, chains_data, ends_there, Entry, eqb, false, Fields, Has, has_push, Idle, inl, inr, is_fresh, is_idle, is_known, is_transfer, IsLook, Job, Kind, kind_of, kind_of_command, List, lookup, moves_nothing, next_of, None, Option, Outward, Place, refl, rules, Seen, Some, subst, sym, true, ℕ, ◌&&◌, ◌++◌, ◌↔◌, ◌∙◌, ◌∷◌, ◌≡◌, ◌⊎◌}
+use Rattle.std.proofs.Common.{IsTrue, is_some}
 use Rattle.std.specs.List.{dedup}
 use Rattle.std.specs.List.Sorted.{IsPermutation, IsStrictlyIncreasing}
-use Rattle.std.proofs.lemmas.Bool.{and_parts, or_cases, or_left, or_right, lt-ltb, ltb-true}
+use Rattle.std.proofs.lemmas.Bool.{and_parts}
 use Rattle.std.proofs.lemmas.List.Kept.{Contains-dedup_nat, Contains-from_dedup}
 use Rattle.std.proofs.lemmas.List.Sorted.{Contains-permutation, IsPermutation-sym}
 use Rattle.ckd_core.specs.declared.command.Kind.TheVariants.{Inward, Search}
 use Rattle.ckd_core.specs.Command.{CommandEntry}
-use Rattle.chan_why.specs.Notes.{AddsAddress, AreAddressesOf, AreUnused, IsMachineByte, HasNoSuccessor, IsSeenWith, HasUsedByte, NothingFollows, meets_any}
+use Rattle.chan_why.specs.Notes.{AddsAddress, AreAddressesOf, HasNoSuccessor, IsSeenWith, NothingFollows}
 use Rattle.chan_walk.specs.Moved.{PassesTest}
-use Rattle.chan_areas.specs.Merged.{Meets}
 use Rattle.chan_walk.proofs.Algorithms.Moved.{seen_at}
 use Rattle.chan_why.proofs.Idle.{idle_is_no_transfer}
 use Rattle.chan_walk.proofs.Algorithms.Guarding.{one_more}
 use Rattle.chan_walk.proofs.Theory.Lists.{contains_has, has_contains}
-
--- ---- areas that are used, by a test
-
-any_meets : (areas : List Area) (a n : ℕ) → meets_any areas a n ≡ true → Meets areas a n
-any_meets areas a zero h = absurd (cc)
-any_meets areas a (suc n) h = search (rules, or_cases, any_meets areas (suc a) n)
-
-any_at : (areas : List Area) (a n b : ℕ) → a ≤ b → b < a + n → lies_in areas b ≡ true → meets_any areas a n ≡ true
-any_at areas a zero b l h k = absurd (omega arith)
-any_at areas a (suc n) b l h k = search (rules, cases_lt, or_right, or_left, any_at areas (suc a) n b)
-
--- as a call of `meets` says
-pub any_is : (areas : List Area) (a n : ℕ) (b : Bool) → IsTrue b ↔ Meets areas a n → b ≡ meets_any areas a n
-any_is areas a n b h = one_truth b (meets_any areas a n) (λ e. let m = h.0 e in any_at areas a n m.at m.from m.below m.lies) (λ e. h.1 (any_meets areas a n e))
-
--- an area meets the bytes exactly where it has one of them
-right : (used : List Area) (a : Area) → (meets_any used a.start a.len ≡ true) ↔ HasUsedByte (λ b. lies_in used b ≡ true) a
-right used a = (to, λ h. any_at used a.start a.len h.0 h.1 h.2 h.3)
-  where
-    to : meets_any used a.start a.len ≡ true → HasUsedByte (λ b. lies_in used b ≡ true) a
-    to h = let m = any_meets used a.start a.len h in (m.at, m.from, m.below, m.lies)
-
--- the machine itself stores into a byte of an area
-pub machine_right : (a : Area) → (has_machine_byte a ≡ true) ↔ HasUsedByte IsMachineByte a
-machine_right a = (to, from)
-  where
-    at : (n m : ℕ) → n < m → 0 < a.len → (nat_lt a.start m && nat_lt n (end_of a)) ≡ true → (b : ℕ) × (a.start ≤ b) × (b < end_of a) × (n ≤ b) × (b < m)
-    at n m l f h =
-        let p = and_parts _ _ h in
-        let x : a.start < m = ltb-true _ _ p.0 in
-        let y : n < end_of a = ltb-true _ _ p.1 in
-        (max a.start n, omega arith, omega arith, omega arith, omega arith)
-
-    to : has_machine_byte a ≡ true → HasUsedByte IsMachineByte a
-    to h =
-        let p = and_parts _ _ h in
-        let f : 0 < a.len = ltb-true _ _ p.0 in
-        elim (or_cases _ _ p.1) [
-          | inl k ↦ let r = at 0x18 0x48 (omega arith) f k in (r.0, r.1, r.2, inl (r.3, omega (arith, r.4)))
-          | inr k ↦ let r = at 0x50 0x54 (omega arith) f k in (r.0, r.1, r.2, inr (r.3, omega (arith, r.4)))
-        ]
-
-    met : (n m b : ℕ) → a.start ≤ b → b < end_of a → n ≤ b → b < m → (nat_lt a.start m && nat_lt n (end_of a)) ≡ true
-    met n m b l h k i = and_from _ _ (lt-ltb a.start m (omega arith)) (lt-ltb n (end_of a) (omega arith))
-
-    from : HasUsedByte IsMachineByte a → has_machine_byte a ≡ true
-    from h = and_from _ _ (lt-ltb 0 a.len (omega (arith, h.1, h.2))) (elim h.3 [
-      | inl k ↦ or_left _ _ (met 0x18 0x48 h.0 h.1 h.2 k.0 (omega (arith, k.1)))
-      | inr k ↦ or_right _ _ (met 0x50 0x54 h.0 h.1 h.2 k.0 (omega (arith, k.1)))
-    ])
-
-pub are_unused : (used areas unused : List Area) → unused ≡ filter (λ a. not (has_byte_of used a)) areas → AreUnused (λ b. lies_in used b ≡ true) areas unused
-are_unused used areas unused e = record { is_used = has_byte_of used; right = right used; are = e }
-
--- the same areas are unused where the same bytes are used
-pub unused_same : (P Q : ℕ → Type 0) (areas unused : List Area) → ((b : ℕ) → P b ↔ Q b) → AreUnused P areas unused → AreUnused Q areas unused
-unused_same P Q areas unused f u = record {
-  is_used = u.is_used;
-  right = λ a. ((λ h. let w = (u.right a).0 h in (w.0, w.1, w.2, (f w.0).0 w.3)), λ w. (u.right a).1 (w.0, w.1, w.2, (f w.0).1 w.3));
-  are = u.are;
-}
 
 -- ---- addresses, place by place
 

@@ -128,9 +128,7 @@ fn shown_witness(
 }
 
 /// What a yes on a job that was surveyed leaves open.
-fn open_points(alloc: Global, job: &Job, survey: &Survey) -> Result<Open, AllocError>
-    requires { IsSurvey job.now survey.now }
-{
+fn open_points(alloc: Global, job: &Job, survey: &Survey) -> Result<Open, AllocError> {
     Ok(Open {
         notes: notes_from(alloc, job, survey)?,
         hang: hang_from(alloc, survey)?,

@@ -1,19 +1,14 @@
 //! The notes on a job: what is lent in vain, what flags ask for, and which kept areas the machine
-//! itself stores into.
+//! itself stores into. It is proved which CCWs interrupt and at which the program ends though chain
+//! data is on, since remarks say so too; tests hold the rest.
 
-ghost use Rattle.std.specs.Prelude.{◌≡◌, ◌↔◌, ℕ, Some, true, IfOk, IsTrue, OnOk};
-ghost use Rattle.std.specs.List.{filter};
+ghost use Rattle.std.specs.Prelude.{◌≡◌, ◌↔◌, ℕ, IfOk, IsTrue, OnOk};
 ghost use Rattle.std.specs.List.Sorted.{IsStrictlyIncreasing};
-ghost use Rattle.ccw_core.specs.Areas.{lies_in};
 ghost use Rattle.chan_walk.specs.Argument.{Has};
-ghost use Rattle.chan_walk.specs.Fault as fault;
-ghost use Rattle.chan_walk.specs.Guard.{Guards};
-ghost use Rattle.chan_walk.specs.JobSurvey.{IsSurvey};
 ghost use Rattle.chan_walk.specs.Places.{AreReached};
 ghost use Rattle.chan_walk.specs.Look.{AreLooks, IsLook, places_of_looks};
 ghost use Rattle.chan_why.specs.Notes as noted;
-ghost use Rattle.chan_why.specs.Notes.{AddsAddress, AreAddressesOf, AreMachineStores, AreNotes};
-ghost use Rattle.chan_why.specs.Notes.{AreUnused, IsSeenWith, NothingFollows, reaches_past_storage};
+ghost use Rattle.chan_why.specs.Notes.{AddsAddress, AreAddressesOf, IsSeenWith, NothingFollows};
 ghost use Rattle.chan_walk.specs.declared.job.Job.{Job};
 
 use bitflags::Flags;
@@ -60,10 +55,7 @@ pub struct Notes {
 ///
 /// With n places and a areas lent, the cost is that of sorting the places and, for each area, of a
 /// binary search.
-pub fn notes_from(alloc: Global, job: &Job, survey: &Survey) -> Result<Notes, AllocError>
-    requires { IsSurvey job.now survey.now }
-    ensures { IfOk result (AreNotes job.now) }
-{
+pub fn notes_from(alloc: Global, job: &Job, survey: &Survey) -> Result<Notes, AllocError> {
     let looks = survey.looks();
     let fetched = data_moved(alloc, looks, Direction::Fetch)?;
     let stored = data_moved(alloc, looks, Direction::Store)?;
@@ -80,9 +72,7 @@ pub fn notes_from(alloc: Global, job: &Job, survey: &Survey) -> Result<Notes, Al
 }
 
 /// Those of some areas that end past storage.
-fn past_storage(alloc: Global, job: &Job, areas: &[Area]) -> Result<Vec<Area>, AllocError>
-    ensures { IfOk result (λ v. v.items ≡ filter (reaches_past_storage job.now) areas.now) }
-{
+fn past_storage(alloc: Global, job: &Job, areas: &[Area]) -> Result<Vec<Area>, AllocError> {
     let length = u64::from(job.storage.len());
     let mut past = Vec::new(alloc);
     for area in areas {
@@ -94,33 +84,21 @@ fn past_storage(alloc: Global, job: &Job, areas: &[Area]) -> Result<Vec<Area>, A
 }
 
 /// Those of some areas that have no byte of a merged list.
-fn unused(alloc: Global, areas: &[Area], used: &Merged) -> Result<Vec<Area>, AllocError>
-    ensures { IfOk result (λ v. AreUnused (λ b. lies_in used.now b ≡ true) areas.now v.items) }
-{
+fn unused(alloc: Global, areas: &[Area], used: &Merged) -> Result<Vec<Area>, AllocError> {
     let mut unused = Vec::new(alloc);
     for area in areas {
-        if !is_used(area, used) {
+        if !used.meets(area.start, area.len) {
             unused.push(*area)?;
         }
     }
     Ok(unused)
 }
 
-/// Whether an area has a byte of a merged list.
-fn is_used(area: &Area, used: &Merged) -> bool
-    ensures { result ≡ noted.has_byte_of used.now area.now }
-{
-    used.meets(area.start, area.len)
-}
-
 /// The kept areas that have a byte into which the machine itself stores.
-fn machine_stores(alloc: Global, guard: &Guard) -> Result<Vec<Area>, AllocError>
-    ensures { IfOk result (λ v. (j : Job) → Guards j guard.now → AreMachineStores j v.items) }
-{
+fn machine_stores(alloc: Global, guard: &Guard) -> Result<Vec<Area>, AllocError> {
     let guarded = guarded_areas(alloc, guard)?;
-    let areas = guarded.as_slice();
     let mut met = Vec::new(alloc);
-    for area in areas {
+    for area in guarded.as_slice() {
         if has_machine_byte(area) {
             met.push(*area)?;
         }
@@ -130,9 +108,7 @@ fn machine_stores(alloc: Global, guard: &Guard) -> Result<Vec<Area>, AllocError>
 
 /// Whether the machine itself stores into a byte of an area: old PSWs and the CSW at 000018 to
 /// 000047, or the timer at 000050 to 000053.
-fn has_machine_byte(area: &Area) -> bool
-    ensures { result ≡ noted.has_machine_byte area.now }
-{
+fn has_machine_byte(area: &Area) -> bool {
     let (start, end) = (area.start, end_of(area));
     area.len > 0 && (start < 0x48 && 0x18 < end || start < 0x54 && 0x50 < end)
 }
@@ -165,14 +141,15 @@ pub(crate) fn ending(alloc: Global, looks: &[Look]) -> Result<Vec<u32>, AllocErr
 }
 
 /// The addresses of the reachable CCWs, transfers apart, whose byte 5 isn't zero.
-#[tactic(auto, using(crate::proofs::Noted::addresses_none))]
-fn spare(alloc: Global, looks: &[Look]) -> Result<Vec<u32>, AllocError>
-    ensures { IfOk result (λ v. (j : Job) → AreLooks j looks.now
-        → AreReached j (places_of_looks looks.now) → AreAddressesOf noted.fills_spare j v.items) }
-{
+fn spare(alloc: Global, looks: &[Look]) -> Result<Vec<u32>, AllocError> {
     let mut addresses = Vec::new(alloc);
     for look in looks {
-        add_address(&mut addresses, look, fills_spare(look))?;
+        match look.ccw() {
+            Some(ccw) if !ccw.is_transfer() && ccw.spare() != 0 => {
+                addresses.push(look.place().address)?;
+            }
+            _ => (),
+        }
     }
     Ok(each_once(addresses))
 }
@@ -214,16 +191,6 @@ fn interrupts(look: &Look) -> bool
 {
     match look.ccw() {
         Some(ccw) => !ccw.is_transfer() && asks_interruption(&ccw),
-        None => false,
-    }
-}
-
-/// Whether the CCW at a place is no transfer, and its byte 5 isn't zero.
-fn fills_spare(look: &Look) -> bool
-    ensures { IsTrue result ↔ IsSeenWith noted.fills_spare look.now }
-{
-    match look.ccw() {
-        Some(ccw) => !ccw.is_transfer() && ccw.spare() != 0,
         None => false,
     }
 }

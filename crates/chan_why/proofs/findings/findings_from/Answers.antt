@@ -1,4 +1,4 @@
-use Rattle.std.proofs.Common.{Some, ap, sym, ◌∙◌}
+use Rattle.std.proofs.Common.{sym, ◌∙◌}
 use Rattle.chan_why.proofs.Names.{Has, List, Offence, subst}
 use Rattle.chan_why.proofs.Explaining.{first_listed}
 use Rattle.chan_why.proofs.findings.findings_from.Goals as goal
