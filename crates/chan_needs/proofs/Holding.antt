@@ -1,15 +1,12 @@
 -- The bytes of two merged lists.
-use Rattle.chan_needs.proofs.Names.{Area, arith, cases_lt, drop, drop-cons, end_of, get_or, inl, inr, IsByteOf, IsLeastOf, IsMerged, IsShared, length, lies_in, List, rules, true, ℕ, ◌+◌, ◌-◌, ◌<◌, ◌∷◌, ◌≡◌, ◌≤◌, ◌⊎◌}
-use Rattle.std.proofs.Common.{max, add-one}
+use Rattle.chan_needs.proofs.Names.{Area, arith, cases_lt, end_of, get_or, inl, inr, IsByteOf, IsLeastOf, IsMerged, IsShared, length, lies_in, List, rules, true, ℕ, ◌-◌, ◌<◌, ◌≡◌, ◌≤◌, ◌⊎◌}
+use Rattle.std.proofs.Common.{max}
 use Rattle.ccw_core.proofs.Covering.{lies_in-at}
 use Rattle.chan_areas.proofs.Searching.{area_at, merged_ends, merged_len, merged_order}
 
 -- no area
 abbrev pub nowhere : Area
 nowhere = record { start = 0; len = 0 }
-
-pub rest_of : (xs : List Area) (i : ℕ) → i < length xs → drop i xs ≡ get_or xs i nowhere ∷ drop (i + 1) xs
-rest_of xs i l = rw add-one (drop-cons xs i nowhere l)
 
 -- ---- a byte in two merged lists
 

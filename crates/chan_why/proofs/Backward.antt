@@ -1,12 +1,8 @@
 -- Reading a path backwards, from a place to the one that it was found from.
-use Rattle.chan_why.proofs.Names.{[], all_found, and_from, ap, arith, best_first, best_next, Bool, Entry, eqb, HasFound, IsBestPath, IsPathAt, IsSurvey, Job, length, List, number_of_places, Option, Place, places_of_looks, refl, reverse, rules, Seen, slice_get_within, slice_index, Some, subst, Surveyed, sym, true, ℕ, ◌&&◌, ◌++◌, ◌<◌, ◌∙◌, ◌∷◌, ◌≡◌}
+use Rattle.chan_why.proofs.Names.{[], all_found, ap, arith, best_first, best_next, HasFound, IsBestPath, IsPathAt, IsSurvey, Job, length, List, number_of_places, Option, Place, places_of_looks, reverse, Seen, slice_get_within, slice_index, Some, subst, Surveyed, sym, ℕ, ◌++◌, ◌<◌, ◌∙◌, ◌∷◌, ◌≡◌}
 use Rattle.std.proofs.Common.{append_assoc}
 use Rattle.std.specs.List.{slice_get}
-use Rattle.std.proofs.lemmas.Bool.{eq-eqb}
-use Rattle.chan_walk.specs.contracts.place.Entry.{the_type}
 use Rattle.chan_walk.specs.Place.{first_place}
-use denote.Enum.Bare.{sameb}
-use mathlib.Core.Bool.{beq}
 
 -- the path that front ends, and whose front part is rest, is the best to the place of the index to
 pub record EndsBestPath (j : Job) (ps : List Place) (to : ℕ) (whole : List Place) : Type 0 where
@@ -57,21 +53,6 @@ module _ (j : Job) (ls : List Seen) (fs : List ℕ) (f : HasFound j ls fs) where
       (omega arith, omega arith, omega (arith, f.traced.each, number_of_places ls))
 
 -- ---- the index of a place
-
--- what the comparison of two places computes
-abbrev pub is_same_place : Place → Place → Bool
-is_same_place p q = eqb p.address q.address && (sameb the_type p.entered q.entered && beq p.after_transfer q.after_transfer)
-
-same_entry : (e : Entry) → sameb the_type e e ≡ true
-same_entry e = search rules
-
-same_flag : (b : Bool) → beq b b ≡ true
-same_flag b = search rules
-
-pub same_place : (p q : Place) → p ≡ q → is_same_place p q ≡ true
-same_place p q e =
-    subst (λ (z : Place). is_same_place p z ≡ true) e
-    (and_from _ _ (eq-eqb p.address p.address refl) (and_from _ _ (same_entry p.entered) (same_flag p.after_transfer)))
 
 pub within_looks : (ls : List Seen) (p : Place) (k : ℕ) → slice_get (places_of_looks ls) k ≡ Some p → k < length ls
 within_looks ls p k e = omega (arith, number_of_places ls, slice_get_within (places_of_looks ls) k p e)

@@ -43,7 +43,7 @@ pub use Rattle.chan_why.specs.declared.hang.Predecessors.{Predecessors}
 pub use Rattle.ckd_core.specs.declared.command.Kind.{Kind}
 pub use Rattle.ckd_core.specs.declared.command.Kind.TheVariants.{Idle, Outward}
 pub use Rattle.std.proofs.Common.{[], ap, arith, Bool, eqb, false, get_or, inl, inr, IsSome, length, List, None, not, Option, refl, reverse, rules, set, slice_get, slice_index, Some, subst, suc, sym, take, true, zero, ℕ, ◌%◌, ◌&&◌, ◌++◌, ◌+◌, ◌-◌, ◌<◌, ◌↔◌, ◌∙◌, ◌∷◌, ◌≡◌, ◌≤◌, ◌⊎◌}
-pub use Rattle.std.proofs.lemmas.Bool.{and_from, both_ways, cases_eq, cases_lt}
+pub use Rattle.std.proofs.lemmas.Bool.{both_ways, cases_eq, cases_lt}
 pub use Rattle.std.proofs.lemmas.List.{append_assoc, get_or_read}
 pub use Rattle.std.proofs.lemmas.Option.{slice_get-get_or, slice_get_read, slice_get_within}
 pub use Rattle.std.specs.Ordering.{nat_cmp}
