@@ -1,17 +1,5 @@
 -- Bytes, and addresses of seven digits, digit by digit and byte by byte.
 use Rattle.chan_deck.proofs.Names.{[], address_text, ap, arith, bytes_high_first, encode_upper, encode_with, get_or, le-ltb, List, lt-ltb, refl, size_digits, slice_index, STORAGE_LIMIT, sym, to_be_bytes, upper_digits, w32, ℕ, ◌%◌, ◌++◌, ◌/◌, ◌<◌, ◌^◌, ◌∙◌, ◌∷◌, ◌≡◌, ◌≤◌}
-use Rattle.std.proofs.Common.{encode_utf8}
-use Rattle.std.proofs.lemmas.Str.{encode_ascii}
-use Rattle.chan_deck.proofs.UpperDigits.{digit_ascii}
-
--- the digits of a byte, as characters
-pub two_digits : (b high low : ℕ) → high ≡ b / 16 → low ≡ b % 16
-    → encode_utf8 (slice_index upper_digits high) ++ encode_utf8 (slice_index upper_digits low) ≡ encode_upper (b ∷ [])
-unfolding encode_with
-two_digits b high low h l =
-    let first = encode_ascii (slice_index upper_digits high) (digit_ascii high) in
-    let second = encode_ascii (slice_index upper_digits low) (digit_ascii low) in
-    rw (first, second, h, l) refl
 
 first_digit : (n : ℕ) → n < 2 ^ 28 → size_digits n ≡ slice_index upper_digits (n / 16777216) ∷ encode_upper (bytes_high_first 3 n)
 unfolding encode_with

@@ -16,10 +16,6 @@ passes p [] h z k = z
 passes p (x ∷ t) h z zero = (and_parts (p x) (all_pass p t) h).0
 passes p (x ∷ t) h z (suc k) = passes p t (and_parts (p x) (all_pass p t) h).1 z k
 
--- each digit is a character of ASCII
-pub digit_ascii : (k : ℕ) → slice_index upper_digits k < 128
-digit_ascii k = ltb-true (slice_index upper_digits k) 128 (passes (λ c. nat_lt c 128) upper_digits refl refl k)
-
 -- each digit of an encoding passes a test that the table passes
 pub encoded_pass : (p : ℕ → Bool) → all_pass p upper_digits ≡ true → p 0 ≡ true → (bytes : List ℕ) → AllByRecursion (λ c. p c ≡ true) (encode_upper bytes)
 unfolding encode_with

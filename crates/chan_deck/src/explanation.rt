@@ -10,7 +10,8 @@ ghost use Rattle.chan_why.specs.Findings.{AreFindings};
 
 use crate::evidence::push_evidence;
 use crate::listing::{push_words, standing_at};
-use crate::verdict_line::{Digits, verdict_text};
+use crate::verdict_line::verdict_text;
+use ccw_core::push_digits;
 use chan_walk::{Evidence, Job, Offence, Place, Setting, Survey, Verdict, setting_at};
 use chan_why::{Findings, Witness};
 use ckd_core::Track;
@@ -28,8 +29,9 @@ pub(crate) fn push_setting(out: &mut String, setting: Option<Setting>) -> Result
             write!(out, " (cylinder {cylinder}, head {head})")
         }
         Some(Setting::Mask(byte)) => {
-            let byte = Digits(byte);
-            write!(out, " (mask {byte})")
+            out.push_str(" (mask ")?;
+            push_digits(out, &[byte])?;
+            out.push_str(")")
         }
     }
 }

@@ -1,35 +1,12 @@
 //! The lines of a verdict and of a program that was found.
 
 ghost use Rattle.std.specs.Prelude.{◌≡◌, ◌++◌, IfOk, OnOk, string_bytes};
-ghost use Rattle.hex.specs.Hex.{encode_upper};
 ghost use Rattle.chan_deck.specs.VerdictLine as text;
 
 use ccw_core::{Area, push_digit, push_digits};
 use chan_walk::Verdict;
 use std::alloc::{AllocError, Global};
 use std::fmt;
-
-/// The hexadecimal digits.
-const DIGITS: [char; 16] = [
-    '0', '1', '2', '3', '4', '5', '6', '7', '8', '9', 'A', 'B', 'C', 'D', 'E', 'F',
-];
-
-/// A byte as text: its two digits.
-#[derive(Clone, Copy)]
-pub(crate) struct Digits(pub(crate) u8);
-
-impl fmt::Display for Digits {
-    ghost use Rattle.std.specs.Prelude.{Some, [], ◌∷◌};
-    ghost use Rattle.hex.specs.Hex.{encode_upper};
-
-    ghost output = { λ d. Some (encode_upper (d.0 ∷ [])) };
-
-    fn fmt<W: fmt::Write>(&self, f: &mut fmt::Formatter<W>) -> fmt::Result {
-        let high = DIGITS[usize::from(self.0 / 16)];
-        let low = DIGITS[usize::from(self.0 % 16)];
-        write!(f, "{high}{low}")
-    }
-}
 
 /// A range of storage as text: the addresses of its first byte and of its last, if it is another.
 #[derive(Clone, Copy)]
