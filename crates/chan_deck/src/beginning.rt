@@ -20,11 +20,15 @@ struct SearchLoop {
     target: u32,
 }
 
-/// The notes on an image that begins at this address: that it is text, and where else its search
-/// loops fit. An error means that an allocation failed.
+/// The notes on an image that begins at this address: that it is text or a file of another form,
+/// and where else its search loops fit. An error means that an allocation failed.
 pub fn image_notes(alloc: Global, at: u32, image: &[u8]) -> Result<Vec<u8>, AllocError> {
     let mut text = String::from_str(alloc, text_note(image))?;
-    text.push_str(form_note(image))?;
+    text.push_str(match image {
+        [0x1F, 0x8B, ..] => "note: this is compressed by gzip; unpack it first\n",
+        [0x02, 0xC5, 0xE2, 0xC4, ..] => "note: this is an object deck; link and load it first\n",
+        _ => "",
+    })?;
     let mut loops = search_loops(alloc, image)?;
     loops.sort_unstable();
     let (fit_here, likely) = most_voted(&loops, at.saturating_add(STORAGE_LIMIT));
@@ -93,15 +97,6 @@ fn text_note(image: &[u8]) -> &'static str {
         }
     }
     if digits { IS_TEXT } else { "" }
-}
-
-/// The note on an image that is a file of another form, by how the file begins.
-fn form_note(image: &[u8]) -> &'static str {
-    match image {
-        [0x1F, 0x8B, ..] => "note: this is compressed by gzip; unpack it first\n",
-        [0x02, 0xC5, 0xE2, 0xC4, ..] => "note: this is an object deck; link and load it first\n",
-        _ => "",
-    }
 }
 
 /// The search loops of an image.

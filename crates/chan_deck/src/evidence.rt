@@ -101,15 +101,6 @@ fn push_sought(
     push_given(alloc, out, argument)
 }
 
-/// Adds what the byte that is stored over is to the place that takes it.
-fn push_taken(out: &mut String, byte: u32, argument: Option<GivenBytes>) -> Result<(), AllocError> {
-    let Some(argument) = argument else {
-        return write!(out, "the mask byte {byte:06X}");
-    };
-    write!(out, "{byte:06X} of the argument ")?;
-    push_ranges(out, argument.addresses())
-}
-
 /// Adds what `because` says of data that is stored over what may not change.
 fn push_change(out: &mut String, evidence: Evidence) -> Result<(), AllocError> {
     match evidence {
@@ -125,7 +116,13 @@ fn push_change(out: &mut String, evidence: Evidence) -> Result<(), AllocError> {
         } => {
             let data = Range(data);
             write!(out, "it stores {data}, over ")?;
-            push_taken(out, byte, argument)?;
+            match argument {
+                Some(argument) => {
+                    write!(out, "{byte:06X} of the argument ")?;
+                    push_ranges(out, argument.addresses())?;
+                }
+                None => write!(out, "the mask byte {byte:06X}")?,
+            }
             write!(out, " of {taker:06X}")
         }
         _ => Ok(()),

@@ -600,30 +600,8 @@ fn push_changes(
     Ok(())
 }
 
-/// Adds the arrow to the box of the first place.
-fn push_start(
-    out: &mut String,
-    scene: Scene<'_>,
-    layout: &Layout,
-    first: Place,
-) -> Result<(), AllocError> {
-    let arrow = arrow_to(scene, Some(first));
-    match arrow.and_then(|arrow| node_of(scene.looks, layout, arrow.to)) {
-        Some(first) => write!(out, "  start -> \"{first}\";\n"),
-        None => Ok(()),
-    }
-}
-
-/// Adds the arrow to the end of the program, from a box at whose last row it ends.
-fn push_end(out: &mut String, from: Node) -> Result<(), AllocError> {
-    write!(
-        out,
-        "  \"end {from}\" [label=end, shape=plaintext, fontname=\"sans-serif\", margin=0.03];\n  \
-         \"{from}\" -> \"end {from}\";\n"
-    )
-}
-
-/// Adds the arrows from each row.
+/// Adds the arrows from each row, and that to the end of the program from a box at whose last row
+/// it ends.
 fn push_arrows(
     alloc: Global,
     out: &mut String,
@@ -639,7 +617,11 @@ fn push_arrows(
         push_arrow(out, picture, layout, at, row.next, false)?;
         push_arrow(out, picture, layout, at, row.skip, row.until.is_none())?;
         if row.next.is_none() && row.skip.is_none() && row.look.fault().is_none() {
-            push_end(out, from)?;
+            write!(
+                out,
+                "  \"end {from}\" [label=end, shape=plaintext, fontname=\"sans-serif\", \
+                 margin=0.03];\n  \"{from}\" -> \"end {from}\";\n"
+            )?;
         }
         push_changes(alloc, out, picture, scene, layout, at, row.look.place())?;
     }
@@ -748,7 +730,10 @@ fn body_of(alloc: Global, picture: &Picture) -> Result<String, AllocError> {
     push_grants(&mut out, picture)?;
     out.push_str(STYLES)?;
     push_boxes(alloc, &mut out, (picture, &shown), scene, &layout, &ends)?;
-    push_start(&mut out, scene, &layout, first)?;
+    let arrow = arrow_to(scene, Some(first));
+    if let Some(first) = arrow.and_then(|arrow| node_of(scene.looks, &layout, arrow.to)) {
+        write!(out, "  start -> \"{first}\";\n")?;
+    }
     push_arrows(alloc, &mut out, picture, scene, &layout)?;
     Ok(out)
 }

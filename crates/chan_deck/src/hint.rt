@@ -294,7 +294,9 @@ fn push_caret(out: &mut String, spot: &Spot<'_>, cause: Cause) -> Result<(), All
     };
     match form {
         Some(form) if !spot.found.is_empty() && !is_no_text(spot) => {
-            push_caret_at(out, spot.found, fitting(form, spot.found))
+            let patterns = form.pattern().split(", ");
+            let fitting = patterns.map(|pattern| fitting_one(pattern.as_bytes(), spot.found));
+            push_caret_at(out, spot.found, fitting.max().unwrap_or(0))
         }
         _ => Ok(()),
     }
@@ -315,15 +317,6 @@ pub(crate) fn push_caret_at(
         })?;
     }
     out.push_str("^\n")
-}
-
-/// How many first bytes of a line are as a form has them.
-fn fitting(form: Form, line: &[u8]) -> usize {
-    form.pattern()
-        .split(", ")
-        .map(|pattern| fitting_one(pattern.as_bytes(), line))
-        .max()
-        .unwrap_or(0)
 }
 
 /// How many first bytes of a line are as a pattern has them.

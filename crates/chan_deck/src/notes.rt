@@ -85,16 +85,6 @@ fn push_areas(
     push_more(out, runs.len())
 }
 
-/// Adds the note on the place from which on the program never ends by itself, if there is one. It
-/// says how the CCW is entered, since the program may end where the same CCW is entered otherwise.
-fn push_hang(out: &mut String, hang: Option<Place>) -> Result<(), AllocError> {
-    if let Some(place) = hang {
-        let (address, way) = (place.address, way_word(place.entered));
-        write!(out, "note: from {address:06X} (entered {way}){HANGS}\n")?;
-    }
-    Ok(())
-}
-
 /// Adds the notes of a kind on the CCWs at some addresses.
 fn push_ccws(out: &mut String, what: &str, addresses: &[u32]) -> Result<(), AllocError> {
     for address in addresses.iter().take(MOST) {
@@ -143,7 +133,11 @@ fn notes_text(
     for (word, what, areas) in kinds {
         push_areas(alloc, &mut text, word, what, areas)?;
     }
-    push_hang(&mut text, hang)?;
+    if let Some(place) = hang {
+        // The note says the way in, since by another the same CCW may lead to an end.
+        let (address, way) = (place.address, way_word(place.entered));
+        write!(text, "note: from {address:06X} (entered {way}){HANGS}\n")?;
+    }
     push_ccws(&mut text, INTERRUPTS, &notes.interrupting)?;
     push_ccws(&mut text, ENDS_THERE, &notes.ending)?;
     push_spare(&mut text, storage, &notes.spare)?;

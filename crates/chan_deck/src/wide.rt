@@ -90,19 +90,16 @@ fn push_deed(out: &mut String, shown: &Shown, looks: &[Look], at: usize) -> Resu
         (None, Some(verb), Some(ccw)) => {
             push_part(out, verb)?;
             push_amount(out, ccw)?;
-            out.push_str(until_found(looks, at))?;
+            // A transfer repeats the search.
+            let stored_by = &[];
+            if row_at(Scene { looks, stored_by }, at).is_some_and(|row| row.until.is_some()) {
+                out.push_str(" until found")?;
+            }
             shown.push_compared(out, look)?;
         }
         _ => (),
     }
     push_reported(out, look)
-}
-
-/// What is said of a search that a transfer repeats.
-fn until_found(looks: &[Look], at: usize) -> &'static str {
-    let stored_by = &[];
-    let until = row_at(Scene { looks, stored_by }, at).and_then(|row| row.until);
-    until.map_or("", |_| " until found")
 }
 
 /// The words of the reasons by which a place offends.
@@ -155,12 +152,6 @@ fn shown_name(look: &Look) -> &'static str {
     if chain.is_empty() { name } else { "-" }
 }
 
-/// The width of the column of names.
-fn name_width(looks: &[Look]) -> usize {
-    let widest = looks.iter().map(|look| shown_name(look).len()).max();
-    widest.unwrap_or(0).max(NAME_WIDTH)
-}
-
 /// The wide listing of a job that was judged: a header, a row for each CCW and way of entry in
 /// order, and the line of the verdict. `looks` and `offences` are those that `Survey::into_parts`
 /// gives. An error means that an allocation failed.
@@ -177,7 +168,8 @@ pub fn wide_listing(
     ensures { IfOk result (λ text. IsWideListing verdict (string_bytes text)) }
 {
     let shown = Shown::new(alloc, job, looks)?;
-    let width = name_width(looks);
+    let widest = looks.iter().map(|look| shown_name(look).len()).max();
+    let width = widest.unwrap_or(0).max(NAME_WIDTH);
     let mut text = String::from_str(alloc, HEADER)?;
     let begun = text.len();
     text.push_str(COMMAND)?;
