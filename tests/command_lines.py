@@ -21,8 +21,8 @@ from answers import DECKS, REFUSED, answer, answers, helps, is_told, make_inputs
 from answers import texts_of_help, whole
 from building import HERE, must_succeed, version
 from rows import Row, bytes_of, check_rows, sections_of, usage_fault, words_of
-from running import Ran, text_of
-from words import meanings_in
+from running import Ran
+from words import meanings
 
 sys.path.insert(0, str(HERE / "model"))
 
@@ -71,8 +71,7 @@ def rows_of_words():
         yield Row(words_of(words), Ran(4, "", "chanv: " + said.replace("\\n", "\n") + "\n"))
     for words in ("--version", "-V", "--version --fast"):
         yield Row(words.split(), Ran(0, f"chanv {version()}\n"))
-    meanings = meanings_in(text_of(HERE / "explain.txt"))
-    yield Row(["explain", "changes-ccw"], Ran(0, meanings["changes-ccw"]))
+    yield Row(["explain", "changes-ccw"], Ran(0, meanings()["changes-ccw"]))
     yield from (Row(words, Ran(0, text)) for words, text in helps())
     for words, fault in sections["fault"]:
         yield Row(words_of(words), usage_fault(fault.replace("\\n", "\n")))

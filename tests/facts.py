@@ -27,6 +27,7 @@ import peer
 from building import HERE, ROOT, crates
 from examples import FOLDERS, TEXTS, decks_of
 from running import text_of
+from words import meanings
 
 DOCS = ROOT / "docs"
 HEADER = ROOT / "crates/chanv_c/include/chanv.h"
@@ -221,7 +222,7 @@ def check_manual(checks):
     form = re.search(r'DEVICE_FORM: &str = "(.*)";', text_of(ROOT / OPTIONS))[1]
     devices = re.search(r"for the IBM (.*) disks", page)[1]
     checks.expect("the devices of the manual", *(re.findall(r"\d+", it) for it in (form, devices)))
-    keep = re.search(r"(?m)^keep: (.*)$", text_of(ROOT / "tests/explain.txt"))[1]
+    keep = meanings()["keep"].removeprefix("keep: ").rstrip()
     says_so = f"keep has {keep}." in plain(page)
     checks.expect_that(f"the manual says: keep has {keep}", says_so, page)
 

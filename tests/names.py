@@ -17,6 +17,7 @@ import tokenize
 from building import HERE, ROOT, short
 from links_and_sizes import FENCED, PAGES
 from running import text_of
+from words import WORDS
 
 # words of tools, systems and libraries, and folders of an installation
 OUTSIDE = set(
@@ -150,8 +151,8 @@ def check(checks, _built):
         if page.name != "CHANGELOG.md":
             check_names(checks, short(page), text_of(page), sources)
         check_paths(checks, short(page), text_of(page), sources)
-    for name in ("help.txt", "explain.txt"):
-        check_names(checks, f"tests/{name}", text_of(HERE / name), sources)
+    for path in (HERE / "help.txt", WORDS):
+        check_names(checks, short(path), text_of(path), sources)
     for path, text in sources.comments.items():
         name = f"the comments of {short(path)}"
         check_names(checks, name, text, sources)

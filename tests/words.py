@@ -1,10 +1,11 @@
-"""`chanv explain` writes what explain.txt says of each word.
+"""`chanv explain` writes what the tables of `words.rt` say of each word.
 
-explain.txt has a line for each word, in the order in which `chanv explain` alone lists the words.
-Indented lines under it explain the word at length; `chanv explain WORD` writes these, or else the
+A row there begins with a line for its word, in the order in which `chanv explain` alone lists the
+words. Further lines explain the word at length; `chanv explain WORD` writes these, or else the
 line, in any case of the word's letters. The words explained at length are the reasons of the table
 in docs/VERDICT.md, the causes of the table in docs/DECK.md, and the failures of the table in
-docs/OUTPUT.md, in this order, and last a deck, which is judged yes. The commands of docs/DEVICE.md are words too, each with its code.
+docs/OUTPUT.md, in this order, and last a deck, which is judged yes. The commands of docs/DEVICE.md
+are words too, each with its code.
 Each word that `verify`, `list`, `why`, `needs`, `graph` or `find` writes about an example is known,
 and so are codes, the names of further codes, masks, and flags as a row shows them. Any other word
 is refused, and the nearest is named. And `chanv why` gives the cause of each example deck's no in a
@@ -13,12 +14,12 @@ form that the row of its reason in docs/OUTPUT.md shows; each reason has an exam
 
 import re
 
-from building import HERE, ROOT, short
+from building import ROOT, short
 from causes import FURTHER
 from examples import FOLDERS, TEXTS, taken_apart, verdicts_of
 from running import Ran, run, text_of
 
-EXPLAINED = HERE / "explain.txt"
+WORDS = ROOT / "crates/chan_deck/src/words.rt"
 OUTPUT = ROOT / "docs/OUTPUT.md"
 # the page of each table of words, the heading over it, and how a row begins
 TABLES = [
@@ -27,8 +28,8 @@ TABLES = [
     ("OUTPUT.md", "Lines in place of an answer", r"\| `([a-z-]+)` \| `[a-zA-Z :;.]+` \| \d \|"),
 ]
 
-# a word of explain.txt: its line, the word in it, and the indented lines
-WORD = r"(?m)^((\S.*?): .*\n)((?:    .*\n)*)"
+# a row of its tables: the line, the word in it, and the lines that explain the word at length
+ROW = r'(?m)^    "((\S.*?): .*?)(?:\n((?:\S.*\n)*?\S.*?))?",$'
 
 # how the line on a word without a meaning ends
 LISTS_ALL = "chanv explain lists all words"
@@ -98,10 +99,9 @@ def words_under(page, heading, row):
     return re.findall(f"(?m)^{row}", table[0] if table else "")
 
 
-def meanings_in(explained):
+def meanings():
     """What `chanv explain` writes about each word."""
-    found = re.findall(WORD, explained)
-    return {word: re.sub(r"(?m)^    ", "", more) or line for line, word, more in found}
+    return {word: f"{more or line}\n" for line, word, more in re.findall(ROW, text_of(WORDS))}
 
 
 def causes_of(page):
@@ -305,28 +305,28 @@ def check_flags(checks, program, meanings):
 
 
 def check(checks, built):
-    program, explained = built.chanv(), text_of(EXPLAINED)
-    meanings, listed = meanings_in(explained), []
+    program, explained, listed = built.chanv(), meanings(), []
+    rows = re.findall(ROW, text_of(WORDS))
     for table in TABLES:
         words = words_under(*table)
         checks.expect_that(f"the table of {table[0]} has words", words, words)
         listed += words
-    at_length = [word for _, word, more in re.findall(WORD, explained) if more]
+    at_length = [word for _, word, more in rows if more]
     wanted = [*listed, "deck"]
     checks.expect("the words of the tables, and those explained at length", wanted, at_length)
     [deck] = re.findall(r"(?s)chanv deck 1\n.*", run(program, "explain", "deck").output)
     judged = run(program, "verify", given=deck.encode())
     checks.expect("the deck of explain deck", Ran(0, "yes\n"), judged)
-    for word, meaning in meanings.items():
+    for word, meaning in explained.items():
         checks.expect(word, Ran(0, meaning), run(program, "explain", word))
         checks.expect(word.upper(), Ran(0, meaning), run(program, "explain", word.upper()))
-    lines = "".join(re.findall(r"(?m)^\S.*\n", explained))
+    lines = "".join(f"{line}\n" for line, *_ in rows)
     checks.expect("the list of words", Ran(0, lines), run(program, "explain"))
     for word, nearest in UNKNOWN.items():
         near = f"the nearest is {nearest}, and " if nearest else ""
         refused = Ran(4, "", f"chanv: no such word; {near}{LISTS_ALL}\n")
         checks.expect(f"'{word[:20]}'", refused, run(program, "explain", word))
     check_printed(checks, program)
-    check_flags(checks, program, meanings)
-    check_codes(checks, program, meanings)
+    check_flags(checks, program, explained)
+    check_codes(checks, program, explained)
     check_causes(checks, program, dict(causes_of(text_of(OUTPUT))))
