@@ -1,13 +1,9 @@
 //! Showing one CCW with the name of its command, from a text as a person writes it.
 
-ghost use Rattle.std.specs.Prelude.{◌≡◌, ◌≢◌, ◌↔◌, ◌⊎◌, ◌++◌, ◌∷◌, [], false, true, IfOk};
-ghost use Rattle.std.specs.Prelude.{string_bytes};
+ghost use Rattle.std.specs.Prelude.{◌≡◌, ◌≢◌, ◌⊎◌, ◌++◌, ◌∷◌, [], IfOk, IsTrue, string_bytes};
 ghost use Rattle.chan_run.specs.OneCcw.{IsCcwReread, IsCcwResponse, IsCcwShown, plain_digits};
-ghost use Rattle.chan_run.specs.OneCcw.{SpellsCcw, shown_line, without_blanks};
-ghost use Rattle.chan_run.specs.OneCcw.{digits_in};
+ghost use Rattle.chan_run.specs.OneCcw.{SpellsCcw, digits_in, shown_line, without_blanks};
 ghost use Rattle.chan_run.specs.Outcome.{IsWriteFailure};
-ghost use Rattle.std.specs.Prelude.{◌≤◌, ◌||◌, None, IsTrue, codes, length, nat_eq};
-ghost use Rattle.std.specs.List.{starts_with};
 
 use crate::failure::Failure;
 use crate::one_ccw::{ShowError, shown_line};
@@ -30,23 +26,14 @@ fn without_blanks(alloc: Global, text: &[u8]) -> Result<Vec<u8>, AllocError>
     Ok(plain)
 }
 
-/// Whether a text begins with `0x` or `0X`.
-fn begins_with_0x(text: &[u8]) -> bool
-    ensures marked { result ≡ (starts_with nat_eq text.now (codes "0x")
-        || starts_with nat_eq text.now (codes "0X")) }
-    ensures long { IsTrue result → 2 ≤ length text.now }
-{
-    text.starts_with(b"0x") || text.starts_with(b"0X")
-}
-
 /// What stands after `0x` or `0X`, or all of a text that doesn't begin so.
+#[tactic(auto, unfolding(crate::specs::OneCcw::digits_in))]
 fn digits_of(text: &[u8]) -> &[u8]
     ensures { result.now ≡ digits_in text.now }
 {
-    if begins_with_0x(text) {
-        &text[2..]
-    } else {
-        text
+    match text {
+        [b'0', b'x' | b'X', digits @ ..] => digits,
+        _ => text,
     }
 }
 
