@@ -1,8 +1,9 @@
 #!/usr/bin/env python3
 """The copies of the table of commands: with --write they are written, otherwise compared.
 
-The table is in crates/chan_args/src/command_table.rt. Its copies are the usage of the program there,
-the synopsis of the manual, and the commands and options of the completions.
+The table is in crates/chan_args/src/command_table.rt, and kind.rt beside it says what the values
+of its options are. Its copies are the usage of the program there, the synopsis of the manual, and
+the commands and options of the completions.
 """
 
 import re
@@ -13,6 +14,13 @@ from typing import NamedTuple
 ROOT = Path(__file__).resolve().parent.parent
 TABLE = ROOT / "crates/chan_args/src/command_table.rt"
 PAGE, COMPLETIONS = ROOT / "docs/chanv.1", ROOT / "docs/chanv.bash"
+# what help calls the value of each kind, and the form of its text
+KINDS = {
+    kind: (value, form)
+    for kind, value, form in re.findall(
+        r'Kind::(\w+) => \(\s*"([^"]*)",\s+"([^"]*)"', TABLE.with_name("kind.rt").read_text()
+    )
+}
 FIRST, LAST = "    # the table of commands: tests/commands.py\n", "    # end of the table\n"
 
 
@@ -23,19 +31,18 @@ class Command(NamedTuple):
     options: dict
 
 
-def words_in(text):
-    found = re.findall(r'name: "(\w+)",\s+given: Given::(\w+).*?value: "(.*?)"', text, re.S)
-    return {name: value for name, given, value in found if value or given == "Flag"}
-
-
-def commands(text):
+def commands():
     """The commands of the table, in its order."""
-    named = dict(re.findall(r"(?ms)^const (\w+): (?:Word|&\[Word\]) = (.*?);$", text))
+    text = TABLE.read_text()
+    word = r'name: "(\w+)",\s+kind: Kind::(\w+)'
+    named = dict(re.findall(r"(?ms)const (\w+): (?:Word|&\[Word\]) = (.*?);$", text))
     rows = re.findall(r'(?s)CommandRow \{\s+name: "(\w+)".*?usage: "(.*?)",\s+words: (.*?),\n', text)
     for name, usage, words in rows:
         words = named.get(words, words)
         words = re.sub(r"\b[A-Z_]{2,}\b", lambda it: named.get(it[0], it[0]), words)
-        yield Command(name, usage.split("\n       "), words_in(words))
+        kinds = re.findall(word, words)
+        options = {option: KINDS[kind][0] for option, kind in kinds if kind != "Operand"}
+        yield Command(name, usage.split("\n       "), options)
 
 
 def replaced(text, front, back, middle):
@@ -62,10 +69,9 @@ def synopsis_line(line):
 
 def copies():
     """Each file that has a copy, with the text that it should have."""
-    text = TABLE.read_text()
-    table = list(commands(text))
+    table = list(commands())
     usage = "\n       ".join(line for it in table for line in it.usage)
-    yield TABLE, replaced(text, 'const USAGE: &str = "', '";', usage)
+    yield TABLE, replaced(TABLE.read_text(), 'const USAGE: &str = "', '";', usage)
     lines = [synopsis_line(line) for it in table for line in it.usage]
     lines.append(".B chanv help \\fR[\\fICOMMAND\\fR]")
     page = PAGE.read_text()

@@ -25,6 +25,7 @@ import sys
 import model
 import peer
 from building import HERE, ROOT, crates
+from commands import KINDS
 from examples import FOLDERS, TEXTS, decks_of
 from running import text_of
 from words import meanings
@@ -32,7 +33,6 @@ from words import meanings
 DOCS = ROOT / "docs"
 HEADER = ROOT / "crates/chanv_c/include/chanv.h"
 SENTENCES = HERE / "rows/header.txt"
-OPTIONS = "crates/chan_args/src/option_text.rt"
 # what the manual says in short, in the words of THEOREM
 IN_SHORT = [
     "main storage from address 0 on",
@@ -219,7 +219,7 @@ def check_manual(checks):
     synopsis = page.partition("\n.SH SYNOPSIS\n.nf\n")[2].partition("\n.fi\n")[0]
     said = re.sub(r"(?m)^\.B |\\f\w|\\(?=-)", "", synopsis).split("\n")
     checks.expect("the synopsis of the manual", [*lines, "chanv help [COMMAND]"], said)
-    form = re.search(r'DEVICE_FORM: &str = "(.*)";', text_of(ROOT / OPTIONS))[1]
+    form = KINDS["Device"][1]
     devices = re.search(r"for the IBM (.*) disks", page)[1]
     checks.expect("the devices of the manual", *(re.findall(r"\d+", it) for it in (form, devices)))
     keep = meanings()["keep"].removeprefix("keep: ").rstrip()

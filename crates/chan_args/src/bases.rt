@@ -1,9 +1,7 @@
 //! Decimal digits that an option reads as a hexadecimal number, and what its fault says of them.
 
-use crate::option_text::number_of;
-use crate::valued_option::ValuedOption;
-use ccw_core::STORAGE_LIMIT;
-use ckd_core::FileMask;
+use crate::kind::Kind;
+use crate::option_text::{as_address, as_size, mask_with, number_of};
 use std::alloc::{AllocError, Global};
 use std::fmt;
 
@@ -28,84 +26,59 @@ impl fmt::Display for Grouped {
     }
 }
 
-/// Whether an option takes one hexadecimal number.
-fn is_hexadecimal(option: ValuedOption) -> bool {
-    matches!(
-        option,
-        ValuedOption::Mask | ValuedOption::Start | ValuedOption::At | ValuedOption::Storage
-    )
+/// Decimal digits that an option reads as another number in hexadecimal.
+#[derive(Clone, Copy)]
+struct Misread {
+    hexadecimal: u32,
+    decimal: u32,
+    /// Whether the option would accept the decimal number.
+    is_accepted: bool,
 }
 
-/// The number that decimal digits write for an option in hexadecimal, and the one in decimal, if it
-/// is another.
-fn both_bases(option: ValuedOption, text: &str) -> Option<(u32, u32)> {
-    if !is_hexadecimal(option) {
-        return None;
-    }
+/// How an option of this kind misreads a text, if it does.
+fn misreading(kind: Kind, text: &str) -> Option<Misread> {
     let decimal = number_of(text, 10)?;
     let hexadecimal = number_of(text, 16)?;
+    let is_accepted = match kind {
+        Kind::Mask => mask_with(decimal).is_ok(),
+        Kind::Address => as_address(decimal).is_ok(),
+        Kind::Size => as_size(decimal).is_ok(),
+        _ => return None,
+    };
     if hexadecimal == decimal {
         return None;
     }
-    Some((hexadecimal, decimal))
-}
-
-/// Whether an option that takes one hexadecimal number accepts this one.
-fn is_accepted(option: ValuedOption, number: u32) -> bool {
-    match option {
-        ValuedOption::Mask => number < 0x100 && FileMask::new(number as u8).is_some(),
-        ValuedOption::Start | ValuedOption::At => number < STORAGE_LIMIT,
-        ValuedOption::Storage => number <= STORAGE_LIMIT && number % 8 == 0,
-        _ => false,
-    }
-}
-
-/// The number that decimal digits write for an option, if it would accept that one.
-fn decimal_meant(option: ValuedOption, text: &str) -> Option<u32> {
-    let (_, decimal) = both_bases(option, text)?;
-    if is_accepted(option, decimal) {
-        Some(decimal)
-    } else {
-        None
-    }
-}
-
-/// The unit of an option's number.
-fn unit(option: ValuedOption) -> &'static str {
-    match option {
-        ValuedOption::Storage => " bytes",
-        _ => "",
-    }
+    Some(Misread {
+        hexadecimal,
+        decimal,
+        is_accepted,
+    })
 }
 
 /// How an option read a text, if it read decimal digits as another number: the text, that it is
 /// hexadecimal, and the number that it is. Otherwise it is empty.
-pub(crate) fn reading(
-    alloc: Global,
-    option: ValuedOption,
-    text: &str,
-) -> Result<String, AllocError> {
-    let Some((hexadecimal, _)) = both_bases(option, text) else {
+pub(crate) fn reading(alloc: Global, kind: Kind, text: &str) -> Result<String, AllocError> {
+    let Some(Misread { hexadecimal, .. }) = misreading(kind, text) else {
         return Ok(String::new(alloc));
     };
     let grouped = Grouped(hexadecimal);
-    let unit = unit(option);
+    let unit = match kind {
+        Kind::Size => " bytes",
+        _ => "",
+    };
     format!(in alloc; "{text} is hexadecimal here ({grouped}{unit}): ")
 }
 
 /// How to write the number that was meant, if the option would accept it. Otherwise it is empty.
-pub(crate) fn correction(
-    alloc: Global,
-    option: ValuedOption,
-    text: &str,
-) -> Result<String, AllocError> {
-    let Some(number) = decimal_meant(option, text) else {
-        return Ok(String::new(alloc));
+pub(crate) fn correction(alloc: Global, kind: Kind, text: &str) -> Result<String, AllocError> {
+    let decimal = match misreading(kind, text) {
+        Some(misread) if misread.is_accepted => misread.decimal,
+        _ => return Ok(String::new(alloc)),
     };
-    let grouped = Grouped(number);
-    let verb = match option {
-        ValuedOption::Storage => " bytes are",
+    let grouped = Grouped(decimal);
+    let verb = match kind {
+        Kind::Size => " bytes are",
         _ => " is",
     };
-    format!(in alloc; "; {grouped}{verb} {number:X}")
+    format!(in alloc; "; {grouped}{verb} {decimal:X}")
 }

@@ -1,12 +1,11 @@
 //! The command line: which words ask for what.
 
 use crate::action::{Action, Asked};
-use crate::command_table::command;
+use crate::command_table::{ALL, AS_DECK, NAME, OF, RANGE, WIDE, command};
 use crate::image_request::{ImageRequest, OptionError, image_request};
 use crate::met::{is_flagged, text_met, texts_met};
 use crate::option_text::{area_of, offence_of};
 use crate::usage_fault::{OptionFault, of_file, of_library, of_many_ccws, of_option};
-use crate::valued_option::ValuedOption;
 use ccw_core::Area;
 use clap::error::ErrorKind;
 use clap::{ArgMatches, Error};
@@ -89,7 +88,7 @@ fn action_named<'a>(name: &str, matches: &ArgMatches<'a>) -> Result<Action, Opti
         "why" => why_action(matches),
         "graph" => Ok(Action::Graph),
         "needs" => Ok(Action::Needs {
-            deck: is_flagged(matches, "deck"),
+            deck: is_flagged(matches, AS_DECK),
         }),
         _ => Ok(Action::Verify),
     }
@@ -97,25 +96,21 @@ fn action_named<'a>(name: &str, matches: &ArgMatches<'a>) -> Result<Action, Opti
 
 /// The listing that is asked for: of the places, or of a range.
 fn list_action<'a>(matches: &ArgMatches<'a>) -> Result<Action, OptionError<'a>> {
-    let Some(text) = text_met(matches, "range") else {
+    let Some(text) = text_met(matches, RANGE) else {
         return Ok(Action::List {
-            wide: is_flagged(matches, "wide"),
+            wide: is_flagged(matches, WIDE),
         });
     };
     match area_of(text) {
         Ok(Area { start, len }) => Ok(Action::Range { start, len }),
-        Err(why) => Err(OptionError::Wrong(OptionFault {
-            option: ValuedOption::Range,
-            text,
-            why,
-        })),
+        Err(why) => Err(OptionError::Wrong(OptionFault::new(&RANGE, text, why))),
     }
 }
 
 /// The explanation that is asked for.
 fn why_action<'a>(matches: &ArgMatches<'a>) -> Result<Action, OptionError<'a>> {
-    let Some(text) = text_met(matches, "of") else {
-        return Ok(Action::Why(if is_flagged(matches, "all") {
+    let Some(text) = text_met(matches, OF) else {
+        return Ok(Action::Why(if is_flagged(matches, ALL) {
             Asked::All
         } else {
             Asked::First
@@ -123,18 +118,14 @@ fn why_action<'a>(matches: &ArgMatches<'a>) -> Result<Action, OptionError<'a>> {
     };
     match offence_of(text) {
         Ok(address) => Ok(Action::Why(Asked::At(address))),
-        Err(why) => Err(OptionError::Wrong(OptionFault {
-            option: ValuedOption::Of,
-            text,
-            why,
-        })),
+        Err(why) => Err(OptionError::Wrong(OptionFault::new(&OF, text, why))),
     }
 }
 
 /// The request to show the words that clap met as the CCW.
 fn show_request<'a>(alloc: Global, matches: &ArgMatches<'a>) -> Result<Request<'a>, AllocError> {
     let words = texts_met(alloc, matches, "CCW")?;
-    let is_named = is_flagged(matches, "name");
+    let is_named = is_flagged(matches, NAME);
     if is_named || may_be_ccw(words.as_slice()) {
         return Ok(Request::Show { words, is_named });
     }

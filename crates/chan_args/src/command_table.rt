@@ -1,36 +1,32 @@
 //! A table of what each command takes, and the command line that is built from it.
 
+use crate::kind::Kind;
 use clap::{Arg, ArgAction, Command};
 use std::alloc::{AllocError, Global};
 
-/// How a word of a command is given.
+/// How often a word of a command is given.
 #[derive(Clone, Copy)]
 pub(crate) enum Given {
-    /// By itself, or not at all.
-    Plain,
-    /// By itself, any number of times.
+    /// Once or not at all.
+    Optional,
+    /// Once.
+    Required,
+    /// Any number of times.
     Repeated,
-    /// By itself, any number of times but at least once.
+    /// Any number of times but at least once.
     RequiredRepeated,
-    /// As an option with a value, or not at all.
-    Valued,
-    /// As an option with a value.
-    RequiredValued,
-    /// As an option with a value, any number of times.
-    RepeatedValued,
-    /// The same, and at least once without any of these.
+    /// Any number of times, and at least once without any of these options.
     RequiredWithout(&'static [&'static str]),
-    /// As an option without a value, beside none of these.
-    Flag(&'static [&'static str]),
+    /// Once beside none of these options, or not at all.
+    Without(&'static [&'static str]),
 }
 
 /// A word of a command, or an option.
 #[derive(Clone, Copy)]
 pub(crate) struct Word {
-    name: &'static str,
+    pub(crate) name: &'static str,
+    pub(crate) kind: Kind,
     given: Given,
-    /// What help calls its value.
-    value: &'static str,
     /// What help says of it.
     help: &'static str,
 }
@@ -166,169 +162,161 @@ The exit status:
   3  FILE can't be opened, reading or writing failed, or memory ran out
   4  the command line is wrong, or the image ends past --storage";
 
-// Words that several commands have.
+// The words of the commands.
 const DECKS: Word = Word {
     name: "FILE",
+    kind: Kind::Operand,
     given: Given::Repeated,
-    value: "",
     help: "a deck; standard input if FILE is - or left out",
 };
 
-const ALL: Word = Word {
+pub(crate) const ALL: Word = Word {
     name: "all",
-    given: Given::Flag(&["of"]),
-    value: "",
+    kind: Kind::Flag,
+    given: Given::Without(&["of"]),
     help: "adds the cause to each line `also`",
 };
 
-const OF: Word = Word {
+pub(crate) const OF: Word = Word {
     name: "of",
-    given: Given::Valued,
-    value: "ADDRESS",
+    kind: Kind::Offence,
+    given: Given::Optional,
     help: "explains the offence at this hexadecimal address instead",
 };
 
-const WIDE: Word = Word {
+pub(crate) const WIDE: Word = Word {
     name: "wide",
-    given: Given::Flag(&["range"]),
-    value: "",
+    kind: Kind::Flag,
+    given: Given::Without(&["range"]),
     help: "says what each CCW does, for people and not for scripts",
 };
 
-const RANGE: Word = Word {
+pub(crate) const RANGE: Word = Word {
     name: "range",
-    given: Given::Valued,
-    value: "AREA",
+    kind: Kind::Area,
+    given: Given::Optional,
     help: "lists all of these bytes as CCWs, reached or not",
 };
 
-const AS_DECK: Word = Word {
+pub(crate) const AS_DECK: Word = Word {
     name: "deck",
-    given: Given::Flag(&[]),
-    value: "",
+    kind: Kind::Flag,
+    given: Given::Optional,
     help: "writes the deck that grants exactly this",
 };
 
-const DEVICE: Word = Word {
+pub(crate) const DEVICE: Word = Word {
     name: "device",
-    given: Given::Valued,
-    value: "NUMBER",
+    kind: Kind::Device,
+    given: Given::Optional,
     help: "2311 or 2314 (default 2314)",
 };
 
-const AT: Word = Word {
+pub(crate) const AT: Word = Word {
     name: "at",
-    given: Given::Valued,
-    value: "ADDRESS",
+    kind: Kind::Address,
+    given: Given::Optional,
     help: "hexadecimal address of its first byte (default 0)",
 };
 
-const STORAGE: Word = Word {
+pub(crate) const STORAGE: Word = Word {
     name: "storage",
-    given: Given::Valued,
-    value: "SIZE",
+    kind: Kind::Size,
+    given: Given::Optional,
     help: "hexadecimal size of storage (default: image's end)",
+};
+
+pub(crate) const MASK: Word = Word {
+    name: "mask",
+    kind: Kind::Mask,
+    given: Given::Optional,
+    help: "hexadecimal file mask (default 00)",
+};
+
+pub(crate) const START: Word = Word {
+    name: "start",
+    kind: Kind::Address,
+    given: Given::Required,
+    help: "hexadecimal address of the first CCW",
+};
+
+pub(crate) const LIMIT: Word = Word {
+    name: "limit",
+    kind: Kind::Limit,
+    given: Given::Optional,
+    help: "how many places may be reachable (default 4096)",
+};
+
+pub(crate) const EXTENT: Word = Word {
+    name: "extent",
+    kind: Kind::Extent,
+    given: Given::RequiredWithout(&["least", "open"]),
+    help: "decimal cylinders; needed unless --least or --open",
+};
+
+pub(crate) const FETCH: Word = Word {
+    name: "fetch",
+    kind: Kind::Area,
+    given: Given::Repeated,
+    help: "hexadecimal area lent for fetching",
+};
+
+pub(crate) const STORE: Word = Word {
+    name: "store",
+    kind: Kind::Area,
+    given: Given::Repeated,
+    help: "hexadecimal area lent for storing",
+};
+
+pub(crate) const LEAST: Word = Word {
+    name: "least",
+    kind: Kind::Flag,
+    given: Given::Without(&["open", "mask", "extent", "fetch", "store"]),
+    help: "grants exactly what the program needs",
+};
+
+pub(crate) const OPEN: Word = Word {
+    name: "open",
+    kind: Kind::Flag,
+    given: Given::Without(&["mask", "extent", "fetch", "store"]),
+    help: "grants everything",
+};
+
+pub(crate) const NAME: Word = Word {
+    name: "name",
+    kind: Kind::Flag,
+    given: Given::Optional,
+    help: "adds the name of the command",
+};
+
+const CCW: Word = Word {
+    name: "CCW",
+    kind: Kind::Operand,
+    given: Given::RequiredRepeated,
+    help: "sixteen hexadecimal digits, or twice eight",
 };
 
 const IMAGE: Word = Word {
     name: "FILE",
-    given: Given::Plain,
-    value: "",
+    kind: Kind::Operand,
+    given: Given::Optional,
     help: "an image or a dump of storage; standard input if FILE is - or left out",
 };
 
 const IMAGES: Word = Word {
     name: "FILE",
+    kind: Kind::Operand,
     given: Given::Repeated,
-    value: "",
     help: "an image or a dump of storage; standard input if FILE is - or left out",
 };
 
 /// The options of a deck that is made of an image, and the image.
 const MAKING: &[Word] = &[
-    DEVICE,
-    Word {
-        name: "mask",
-        given: Given::Valued,
-        value: "BYTE",
-        help: "hexadecimal file mask (default 00)",
-    },
-    Word {
-        name: "start",
-        given: Given::RequiredValued,
-        value: "ADDRESS",
-        help: "hexadecimal address of the first CCW",
-    },
-    Word {
-        name: "limit",
-        given: Given::Valued,
-        value: "PLACES",
-        help: "how many places may be reachable (default 4096)",
-    },
-    Word {
-        name: "extent",
-        given: Given::RequiredWithout(&["least", "open"]),
-        value: "FIRST-LAST",
-        help: "decimal cylinders; needed unless --least or --open",
-    },
-    Word {
-        name: "fetch",
-        given: Given::RepeatedValued,
-        value: "AREA",
-        help: "hexadecimal area lent for fetching",
-    },
-    Word {
-        name: "store",
-        given: Given::RepeatedValued,
-        value: "AREA",
-        help: "hexadecimal area lent for storing",
-    },
-    Word {
-        name: "least",
-        given: Given::Flag(&["open", "mask", "extent", "fetch", "store"]),
-        value: "",
-        help: "grants exactly what the program needs",
-    },
-    Word {
-        name: "open",
-        given: Given::Flag(&["mask", "extent", "fetch", "store"]),
-        value: "",
-        help: "grants everything",
-    },
-    AT,
-    STORAGE,
-    IMAGE,
+    DEVICE, MASK, START, LIMIT, EXTENT, FETCH, STORE, LEAST, OPEN, AT, STORAGE, IMAGE,
 ];
 
 /// The options of a search for programs in images, and the images.
-const SEARCHING: &[Word] = &[
-    DEVICE,
-    Word {
-        name: "limit",
-        given: Given::Valued,
-        value: "PLACES",
-        help: "how many places may be reachable (default 4096)",
-    },
-    AT,
-    STORAGE,
-    IMAGES,
-];
-
-/// The CCW that is shown, and how.
-const SHOWING: &[Word] = &[
-    Word {
-        name: "CCW",
-        given: Given::RequiredRepeated,
-        value: "",
-        help: "sixteen hexadecimal digits, or twice eight",
-    },
-    Word {
-        name: "name",
-        given: Given::Flag(&[]),
-        value: "",
-        help: "adds the name of the command",
-    },
-];
+const SEARCHING: &[Word] = &[DEVICE, LIMIT, AT, STORAGE, IMAGES];
 
 /// The commands, in the order of help.
 pub(crate) const COMMANDS: &[CommandRow] = &[
@@ -388,8 +376,8 @@ pub(crate) const COMMANDS: &[CommandRow] = &[
         usage: "chanv explain [WORD]...",
         words: &[Word {
             name: "WORD",
+            kind: Kind::Operand,
             given: Given::Repeated,
-            value: "",
             help: "a word of the output, such as changes-ccw, 07 or mask 98",
         }],
         after_help: "",
@@ -398,7 +386,7 @@ pub(crate) const COMMANDS: &[CommandRow] = &[
         name: "show",
         about: "prints a channel command word (CCW)",
         usage: "chanv show [--name] <CCW>",
-        words: SHOWING,
+        words: &[CCW, NAME],
         after_help: OF_SHOW,
     },
 ];
@@ -474,27 +462,21 @@ fn with_word<'a>(
 
 /// The argument of a word.
 fn arg_of<'a>(alloc: Global, word: &Word) -> Result<Arg<'a>, AllocError> {
-    let Word {
-        name,
-        given,
-        value,
-        help,
-    } = *word;
-    let arg = Arg::new(alloc, name).help(help);
-    match given {
-        Given::Plain => Ok(arg),
+    let arg = Arg::new(alloc, word.name).help(word.help);
+    let arg = match word.kind {
+        Kind::Operand => arg,
+        Kind::Flag => arg.long(word.name).action(ArgAction::SetTrue),
+        kind => arg.long(word.name).value_name(kind.value()),
+    };
+    match word.given {
+        Given::Optional => Ok(arg),
+        Given::Required => Ok(arg.required(true)),
         Given::Repeated => Ok(arg.action(ArgAction::Append)),
         Given::RequiredRepeated => Ok(arg.required(true).action(ArgAction::Append)),
-        Given::Valued => Ok(arg.long(name).value_name(value)),
-        Given::RequiredValued => Ok(arg.required(true).long(name).value_name(value)),
-        Given::RepeatedValued => Ok(arg.long(name).value_name(value).action(ArgAction::Append)),
         Given::RequiredWithout(others) => {
-            let option = arg.long(name).value_name(value).action(ArgAction::Append);
-            option.required_unless_present_any(others)
+            let repeated = arg.action(ArgAction::Append);
+            repeated.required_unless_present_any(others)
         }
-        Given::Flag(others) => {
-            let flag = arg.long(name).action(ArgAction::SetTrue);
-            flag.conflicts_with_all(others)
-        }
+        Given::Without(others) => arg.conflicts_with_all(others),
     }
 }

@@ -4,11 +4,13 @@ ghost use Rattle.std.specs.List.{All};
 ghost use Rattle.std.specs.Prelude.{◌≡◌, ◌≤◌, ◌<◌, ◌%◌, IfOk, Ok, unwrap_or};
 ghost use Rattle.ccw_core.specs.declared.ccw.TheConstants.{STORAGE_LIMIT};
 
+use crate::command_table::{
+    AT, DEVICE, EXTENT, FETCH, LEAST, LIMIT, MASK, OPEN, START, STORAGE, STORE, Word,
+};
 use crate::image_options::{ImageOptions, RequestedJob};
-use crate::met::{is_flagged, text_met, text_or, texts_met};
+use crate::met::{is_flagged, text_met};
 use crate::option_text::{address_of, area_of, device_of, extent_of, limit_of, mask_of, size_of};
 use crate::usage_fault::OptionFault;
-use crate::valued_option::ValuedOption;
 use ccw_core::Area;
 use chan_walk::Limit;
 use ckd_core::{Extents, LAST_CYLINDER};
@@ -39,7 +41,7 @@ pub(crate) enum OptionError<'a> {
 /// What the text of an option says, or the error that names the option, its text and why that isn't
 /// accepted.
 fn for_option<'a, T>(
-    option: ValuedOption,
+    option: &Word,
     text: &'a str,
     answer: Result<T, &'a str>,
 ) -> Result<T, OptionError<'a>>
@@ -47,32 +49,32 @@ fn for_option<'a, T>(
 {
     match answer {
         Ok(value) => Ok(value),
-        Err(why) => Err(OptionError::Wrong(OptionFault { option, text, why })),
+        Err(why) => Err(OptionError::Wrong(OptionFault::new(option, text, why))),
     }
 }
 
 /// The areas that the texts of an option say.
-fn areas_of<'a>(
+fn areas_met<'a>(
     alloc: Global,
-    option: ValuedOption,
-    texts: &[&'a str],
+    matches: &ArgMatches<'a>,
+    option: Word,
 ) -> Result<Vec<Area>, OptionError<'a>>
     ensures { IfOk result (λ areas. All
         (λ a. (a.start < STORAGE_LIMIT) × (a.len < STORAGE_LIMIT)) areas.items) }
 {
     let mut areas = Vec::new(alloc);
-    for text in texts {
-        let area = for_option(option, text, area_of(text))?;
+    for text in matches.get_strs(option.name).unwrap_or(&[]) {
+        let area = for_option(&option, text, area_of(text))?;
         areas.push(area).map_err(|_| OptionError::Memory)?;
     }
     Ok(areas)
 }
 
 /// The extents that their texts say: all cylinders where there is none.
-fn extents_of<'a>(alloc: Global, texts: &[&'a str]) -> Result<Extents, OptionError<'a>> {
+fn extents_met<'a>(alloc: Global, matches: &ArgMatches<'a>) -> Result<Extents, OptionError<'a>> {
     let mut pairs = Vec::new(alloc);
-    for text in texts {
-        let pair = for_option(ValuedOption::Extent, text, extent_of(text))?;
+    for text in matches.get_strs(EXTENT.name).unwrap_or(&[]) {
+        let pair = for_option(&EXTENT, text, extent_of(text))?;
         pairs.push(pair).map_err(|_| OptionError::Memory)?;
     }
     if pairs.is_empty() {
@@ -86,8 +88,8 @@ fn extents_of<'a>(alloc: Global, texts: &[&'a str]) -> Result<Extents, OptionErr
 
 /// The limit that its text says, where there is one.
 fn limit_met<'a>(matches: &ArgMatches<'a>) -> Result<Option<Limit>, OptionError<'a>> {
-    match text_met(matches, "limit") {
-        Some(text) => Ok(Some(for_option(ValuedOption::Limit, text, limit_of(text))?)),
+    match text_met(matches, LIMIT) {
+        Some(text) => Ok(Some(for_option(&LIMIT, text, limit_of(text))?)),
         None => Ok(None),
     }
 }
@@ -97,17 +99,17 @@ fn size_met<'a>(matches: &ArgMatches<'a>) -> Result<Option<u32>, OptionError<'a>
     ensures { IfOk result (λ size.
         (unwrap_or size 0 ≤ STORAGE_LIMIT) × (unwrap_or size 0 % 8 ≡ 0)) }
 {
-    match text_met(matches, "storage") {
-        Some(text) => Ok(Some(for_option(ValuedOption::Storage, text, size_of(text))?)),
+    match text_met(matches, STORAGE) {
+        Some(text) => Ok(Some(for_option(&STORAGE, text, size_of(text))?)),
         None => Ok(None),
     }
 }
 
 /// The job that is asked for.
 fn job_met(matches: &ArgMatches<'_>) -> RequestedJob {
-    if is_flagged(matches, "least") {
+    if is_flagged(matches, LEAST) {
         RequestedJob::Least
-    } else if is_flagged(matches, "open") {
+    } else if is_flagged(matches, OPEN) {
         RequestedJob::Open
     } else {
         RequestedJob::Named
@@ -123,26 +125,18 @@ fn options_met<'a>(
     alloc: Global,
     matches: &ArgMatches<'a>,
 ) -> Result<ImageOptions, OptionError<'a>> {
-    let text = text_or(matches, "device", "2314");
-    let device = for_option(ValuedOption::Device, text, device_of(text))?;
-    let text = text_or(matches, "mask", "00");
-    let mask = for_option(ValuedOption::Mask, text, mask_of(text))?;
-    let text = text_or(matches, "start", "0");
-    let start = for_option(ValuedOption::Start, text, address_of(text))?;
+    let text = text_met(matches, DEVICE).unwrap_or("2314");
+    let device = for_option(&DEVICE, text, device_of(text))?;
+    let text = text_met(matches, MASK).unwrap_or("00");
+    let mask = for_option(&MASK, text, mask_of(text))?;
+    let text = text_met(matches, START).unwrap_or("0");
+    let start = for_option(&START, text, address_of(text))?;
     let limit = limit_met(matches)?;
-    let extents = extents_of(alloc, matches.get_strs("extent").unwrap_or(&[]))?;
-    let fetch = areas_of(
-        alloc,
-        ValuedOption::Fetch,
-        matches.get_strs("fetch").unwrap_or(&[]),
-    )?;
-    let store = areas_of(
-        alloc,
-        ValuedOption::Store,
-        matches.get_strs("store").unwrap_or(&[]),
-    )?;
-    let text = text_or(matches, "at", "0");
-    let at = for_option(ValuedOption::At, text, address_of(text))?;
+    let extents = extents_met(alloc, matches)?;
+    let fetch = areas_met(alloc, matches, FETCH)?;
+    let store = areas_met(alloc, matches, STORE)?;
+    let text = text_met(matches, AT).unwrap_or("0");
+    let at = for_option(&AT, text, address_of(text))?;
     let size = size_met(matches)?;
     let job = job_met(matches);
     Ok(ImageOptions {
@@ -168,7 +162,7 @@ pub(crate) fn image_request<'a>(
     Ok(ImageRequest {
         finds,
         options: options_met(alloc, matches)?,
-        is_usual_device: text_met(matches, "device").is_none(),
-        is_placed: text_met(matches, "at").is_some(),
+        is_usual_device: text_met(matches, DEVICE).is_none(),
+        is_placed: text_met(matches, AT).is_some(),
     })
 }

@@ -17,11 +17,11 @@ mod command_line;
 mod command_table;
 mod image_options;
 mod image_request;
+mod kind;
 mod met;
 mod option_text;
 mod shown;
 mod usage_fault;
-mod valued_option;
 
 pub use crate::action::{Action, Asked};
 pub use crate::command_line::{Request, Task, read_request};

@@ -1,24 +1,17 @@
 //! What clap met for the words and the options of a command.
 
+use crate::command_table::Word;
 use clap::ArgMatches;
 use std::alloc::{AllocError, Global};
 
-/// The text that clap met, if it met one.
-pub(crate) fn text_met<'a>(matches: &ArgMatches<'a>, name: &str) -> Option<&'a str> {
-    matches.get_str(name)
-}
-
-/// The text that clap met, or the usual one.
-pub(crate) fn text_or<'a>(matches: &ArgMatches<'a>, name: &str, usual: &'a str) -> &'a str {
-    match text_met(matches, name) {
-        Some(text) => text,
-        None => usual,
-    }
+/// The text that clap met for an option, if it met one.
+pub(crate) fn text_met<'a>(matches: &ArgMatches<'a>, option: Word) -> Option<&'a str> {
+    matches.get_str(option.name)
 }
 
 /// Whether clap met an option that has no value.
-pub(crate) fn is_flagged(matches: &ArgMatches<'_>, name: &str) -> bool {
-    text_or(matches, name, "false") == "true"
+pub(crate) fn is_flagged(matches: &ArgMatches<'_>, option: Word) -> bool {
+    text_met(matches, option).unwrap_or("false") == "true"
 }
 
 /// The texts that clap met, in order.

@@ -3,27 +3,10 @@
 ghost use Rattle.std.specs.Prelude.{◌≡◌, ◌≤◌, ◌<◌, ◌%◌, IfOk};
 ghost use Rattle.ccw_core.specs.declared.ccw.TheConstants.{STORAGE_LIMIT};
 
+use crate::kind::Kind;
 use ccw_core::{Area, STORAGE_LIMIT};
 use chan_walk::Limit;
 use ckd_core::{Device, FileMask, LAST_CYLINDER};
-
-// What each option accepts: the cause if its text has another form.
-const DEVICE_FORM: &str = "2311 or 2314";
-
-const MASK_FORM: &str = "a hexadecimal byte with no bits on but C0 and 18";
-
-const ADDRESS_FORM: &str = "a hexadecimal address, at most FFFFFF";
-
-const OFFENCE_FORM: &str = "a hexadecimal address, at most FFFFFFFF";
-
-const SIZE_FORM: &str = "a hexadecimal multiple of 8, at most 1000000";
-
-const LIMIT_FORM: &str = "a decimal number, 1 to 65536";
-
-const EXTENT_FORM: &str = "decimal cylinders in order, 0 to 202, as 10-19";
-
-const AREA_FORM: &str = "hexadecimal start and length or first and last byte, each at most \
-FFFFFF, as 900+10 or 900-90F";
 
 // Why numbers in the right form aren't accepted.
 const MASK_ABOVE: &str = "above FF";
@@ -85,45 +68,63 @@ pub(crate) fn device_of(text: &str) -> Result<Device, &str> {
     match text {
         "2311" => Ok(Device::D2311),
         "2314" => Ok(Device::D2314),
-        _ => Err(DEVICE_FORM),
+        _ => Err(Kind::Device.form()),
     }
+}
+
+/// The file mask with this byte.
+pub(crate) fn mask_with<'a>(byte: u32) -> Result<FileMask, &'a str> {
+    if byte > 0xFF {
+        return Err(MASK_ABOVE);
+    }
+    FileMask::new(byte as u8).ok_or(MASK_BITS)
 }
 
 /// A file mask: a hexadecimal number that is a mask's byte.
 pub(crate) fn mask_of(text: &str) -> Result<FileMask, &str> {
-    match hexadecimal_of(text) {
-        Some(number) if number > 0xFF => Err(MASK_ABOVE),
-        Some(number) => FileMask::new(number as u8).ok_or(MASK_BITS),
-        None => Err(MASK_FORM),
+    mask_with(hexadecimal_of(text).ok_or(Kind::Mask.form())?)
+}
+
+/// A number that is an address: at most `FFFFFF`.
+pub(crate) fn as_address<'a>(number: u32) -> Result<u32, &'a str>
+    ensures { IfOk result (λ n. n < STORAGE_LIMIT) }
+{
+    if number >= STORAGE_LIMIT {
+        return Err(ADDRESS_ABOVE);
     }
+    Ok(number)
 }
 
 /// An address: a hexadecimal number, at most `FFFFFF`.
 pub(crate) fn address_of(text: &str) -> Result<u32, &str>
     ensures { IfOk result (λ n. n < STORAGE_LIMIT) }
 {
-    match hexadecimal_of(text) {
-        Some(number) if number >= STORAGE_LIMIT => Err(ADDRESS_ABOVE),
-        Some(number) => Ok(number),
-        None => Err(ADDRESS_FORM),
-    }
+    as_address(hexadecimal_of(text).ok_or(Kind::Address.form())?)
 }
 
 /// The address of an offence, which may be past storage, to which a chain may lead.
 pub(crate) fn offence_of(text: &str) -> Result<u32, &str> {
-    hexadecimal_of(text).ok_or(OFFENCE_FORM)
+    hexadecimal_of(text).ok_or(Kind::Offence.form())
+}
+
+/// A number that is a size of storage: a multiple of 8 and at most `1000000`.
+pub(crate) fn as_size<'a>(number: u32) -> Result<u32, &'a str>
+    ensures { IfOk result (λ n. (n ≤ STORAGE_LIMIT) × (n % 8 ≡ 0)) }
+{
+    if number > STORAGE_LIMIT {
+        Err(SIZE_ABOVE)
+    } else if number % 8 != 0 {
+        Err(SIZE_ODD)
+    } else {
+        Ok(number)
+    }
 }
 
 /// A size of storage: a hexadecimal number that is a multiple of 8 and at most `1000000`.
 pub(crate) fn size_of(text: &str) -> Result<u32, &str>
     ensures { IfOk result (λ n. (n ≤ STORAGE_LIMIT) × (n % 8 ≡ 0)) }
 {
-    match hexadecimal_of(text) {
-        Some(number) if number > STORAGE_LIMIT => Err(SIZE_ABOVE),
-        Some(number) if number % 8 != 0 => Err(SIZE_ODD),
-        Some(number) => Ok(number),
-        None => Err(SIZE_FORM),
-    }
+    as_size(hexadecimal_of(text).ok_or(Kind::Size.form())?)
 }
 
 /// A limit on places: one decimal digit or more, whose number is from 1 to 65,536.
@@ -131,7 +132,7 @@ pub(crate) fn limit_of(text: &str) -> Result<Limit, &str> {
     match number_of(text, 10) {
         Some(0) => Err(LIMIT_BELOW),
         Some(number) => Limit::new(number).ok_or(LIMIT_ABOVE),
-        None => Err(LIMIT_FORM),
+        None => Err(Kind::Limit.form()),
     }
 }
 
@@ -156,7 +157,7 @@ pub(crate) fn extent_of(text: &str) -> Result<(u16, u16), &str> {
         Some((first, last)) if last < first => Err(EXTENT_BACKWARDS),
         Some((_, last)) if last > LAST_CYLINDER => Err(EXTENT_ABOVE),
         Some(extent) => Ok(extent),
-        None => Err(EXTENT_FORM),
+        None => Err(Kind::Extent.form()),
     }
 }
 
@@ -208,6 +209,6 @@ pub(crate) fn area_of(text: &str) -> Result<Area, &str>
     }
     match pair_of(text, '-') {
         Some((first, last)) => area_between(first, last),
-        None => Err(AREA_FORM),
+        None => Err(Kind::Area.form()),
     }
 }

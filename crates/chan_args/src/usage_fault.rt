@@ -1,20 +1,35 @@
 //! The texts of the usage faults, in the wording of the command line's library.
 
 use crate::bases::{correction, reading};
+use crate::command_table::Word;
+use crate::kind::Kind;
 use crate::option_text::number_of;
-use crate::valued_option::{ValuedOption, usage};
 use clap::Error;
 use std::alloc::{AllocError, Global};
 
 /// An option whose text isn't accepted, with that text and why.
 #[derive(Clone, Copy)]
 pub(crate) struct OptionFault<'a> {
-    /// Which option.
-    pub(crate) option: ValuedOption,
+    /// The name of the option, and what its value is.
+    name: &'a str,
+    kind: Kind,
     /// The text that was given for it.
-    pub(crate) text: &'a str,
+    text: &'a str,
     /// Why that isn't accepted.
-    pub(crate) why: &'a str,
+    why: &'a str,
+}
+
+impl<'a> OptionFault<'a> {
+    /// The fault that an option doesn't accept this text.
+    pub(crate) fn new(option: &Word, text: &'a str, why: &'a str) -> OptionFault<'a> {
+        let Word { name, kind, .. } = *option;
+        OptionFault {
+            name,
+            kind,
+            text,
+            why,
+        }
+    }
 }
 
 /// What is said if there are too many words for a CCW.
@@ -56,11 +71,18 @@ pub(crate) fn of_many_ccws(alloc: Global) -> Result<String, AllocError> {
 /// If the option read decimal digits as another number in hexadecimal, the text says so; and if it
 /// would have accepted the number that they are in decimal, how that one is written.
 pub(crate) fn of_option(alloc: Global, fault: OptionFault<'_>) -> Result<String, AllocError> {
-    let OptionFault { option, text, why } = fault;
-    let usage = usage(option);
-    let read = reading(alloc, option, text)?;
-    let how = correction(alloc, option, text)?;
-    format!(in alloc; "error: invalid value '{text}' for '{usage}': {read}{why}{how}{MORE}")
+    let OptionFault {
+        name,
+        kind,
+        text,
+        why,
+    } = fault;
+    let value = kind.value();
+    let read = reading(alloc, kind, text)?;
+    let how = correction(alloc, kind, text)?;
+    format!(in alloc;
+        "error: invalid value '{text}' for '--{name} <{value}>': {read}{why}{how}{MORE}"
+    )
 }
 
 /// The text that the name of a file stands in place of a command.

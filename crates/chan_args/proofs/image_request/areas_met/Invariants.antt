@@ -1,7 +1,7 @@
 use Rattle.std.proofs.Common.{◌<◌}
 use Rattle.std.specs.List.{All}
 use Rattle.ccw_core.specs.declared.ccw.TheConstants.{STORAGE_LIMIT}
-use Rattle.chan_args.proofs.image_request.areas_of.Given as goal
+use Rattle.chan_args.proofs.image_request.areas_met.Given as goal
 
 abbrev pub invariant-loop-text : goal.invariant-loop-text
 invariant-loop-text l =
