@@ -47,7 +47,8 @@ $(LIBRARIES):
 # one processor is enough beside the others.
 chan_areas: ccw_core
 chan_walk: chan_areas ckd_core
-chan_needs chan_why chan_find chan_args: chan_walk
+chan_needs chan_why chan_find: chan_walk
+chan_args: ccw_core ckd_core
 chan_deck: chan_needs chan_why
 chan_run: chan_args chan_find chan_deck
 ckd_core chan_args chan_find: private JOBS = 1

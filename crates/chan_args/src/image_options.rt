@@ -5,7 +5,6 @@ ghost use Rattle.std.specs.Prelude.{◌≡◌, ◌≤◌, ◌<◌, ◌%◌, unwr
 ghost use Rattle.ccw_core.specs.declared.ccw.TheConstants.{STORAGE_LIMIT};
 
 use ccw_core::Area;
-use chan_walk::Limit;
 use ckd_core::{Device, Extents, FileMask};
 
 /// The job of a deck that is made of an image.
@@ -28,9 +27,9 @@ pub struct ImageOptions {
     pub mask: FileMask,
     /// The address of the first CCW, at most `FFFFFF`.
     pub start: u32,
-    /// How many places may be reachable, at most. With a limit the deck is of version 2, without
-    /// one of version 1.
-    pub limit: Option<Limit>,
+    /// How many places may be reachable, at most: from 1 to 65,536. With a limit the deck is of
+    /// version 2, without one of version 1.
+    pub limit: Option<u32>,
     /// The cylinders of the file.
     pub extents: Extents,
     /// The areas lent for fetching. Start and length of each are at most `FFFFFF`.
@@ -45,6 +44,7 @@ pub struct ImageOptions {
     /// The job of the deck. If it isn't the named one, mask, extents and areas don't matter.
     pub job: RequestedJob,
     pub ghost start_is_address: { start < STORAGE_LIMIT },
+    pub ghost limit_is_limit: { (1 ≤ unwrap_or limit 1) × (unwrap_or limit 1 ≤ 65536) },
     pub ghost fetch_are_areas: { All (λ a.
         (a.start < STORAGE_LIMIT) × (a.len < STORAGE_LIMIT)) fetch.items },
     pub ghost store_are_areas: { All (λ a.

@@ -12,7 +12,6 @@ use crate::met::{is_flagged, text_met};
 use crate::option_text::{address_of, area_of, device_of, extent_of, limit_of, mask_of, size_of};
 use crate::usage_fault::OptionFault;
 use ccw_core::Area;
-use chan_walk::Limit;
 use ckd_core::{Extents, LAST_CYLINDER};
 use clap::ArgMatches;
 use std::alloc::{AllocError, Global};
@@ -87,7 +86,9 @@ fn extents_met<'a>(alloc: Global, matches: &ArgMatches<'a>) -> Result<Extents, O
 }
 
 /// The limit that its text says, where there is one.
-fn limit_met<'a>(matches: &ArgMatches<'a>) -> Result<Option<Limit>, OptionError<'a>> {
+fn limit_met<'a>(matches: &ArgMatches<'a>) -> Result<Option<u32>, OptionError<'a>>
+    ensures { IfOk result (λ limit. (1 ≤ unwrap_or limit 1) × (unwrap_or limit 1 ≤ 65536)) }
+{
     match text_met(matches, LIMIT) {
         Some(text) => Ok(Some(for_option(&LIMIT, text, limit_of(text))?)),
         None => Ok(None),

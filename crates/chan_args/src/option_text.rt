@@ -5,7 +5,6 @@ ghost use Rattle.ccw_core.specs.declared.ccw.TheConstants.{STORAGE_LIMIT};
 
 use crate::kind::Kind;
 use ccw_core::{Area, STORAGE_LIMIT};
-use chan_walk::Limit;
 use ckd_core::{Device, FileMask, LAST_CYLINDER};
 
 // Why numbers in the right form aren't accepted.
@@ -128,10 +127,13 @@ pub(crate) fn size_of(text: &str) -> Result<u32, &str>
 }
 
 /// A limit on places: one decimal digit or more, whose number is from 1 to 65,536.
-pub(crate) fn limit_of(text: &str) -> Result<Limit, &str> {
+pub(crate) fn limit_of(text: &str) -> Result<u32, &str>
+    ensures { IfOk result (λ n. (1 ≤ n) × (n ≤ 65536)) }
+{
     match number_of(text, 10) {
         Some(0) => Err(LIMIT_BELOW),
-        Some(number) => Limit::new(number).ok_or(LIMIT_ABOVE),
+        Some(number) if number > 65_536 => Err(LIMIT_ABOVE),
+        Some(number) => Ok(number),
         None => Err(Kind::Limit.form()),
     }
 }

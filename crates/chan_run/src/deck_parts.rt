@@ -6,6 +6,14 @@ ghost use Rattle.chan_run.specs.Image.{deck_of};
 
 use chan_args::ImageOptions;
 use chan_deck::Parts;
+use chan_walk::Limit;
+
+/// The limit on places that the options say, if they say one.
+pub(crate) fn limit_in(options: &ImageOptions) -> Option<Limit>
+    ensures { result ≡ options.now.limit }
+{
+    Limit::new(options.limit?)
+}
 
 /// The parts of the deck that the options and an image of storage make.
 pub(crate) fn deck_parts<'a>(options: &'a ImageOptions, image: &'a [u8]) -> Parts<'a>
@@ -14,7 +22,7 @@ pub(crate) fn deck_parts<'a>(options: &'a ImageOptions, image: &'a [u8]) -> Part
     ensures image { (result.at ≡ options.entry.now.at) × (result.image ≡ image.entry) }
 {
     Parts {
-        limit: options.limit,
+        limit: limit_in(options),
         device: options.device,
         mask: options.mask,
         start: options.start,

@@ -12,6 +12,7 @@ ghost use Rattle.chan_run.specs.declared.failure.Failure.TheVariants as failures
 ghost use Rattle.chan_run.specs.declared.outcome.Outcome.TheVariants.{Failed};
 ghost use Rattle.ccw_core.specs.declared.ccw.TheConstants.{STORAGE_LIMIT};
 
+use crate::deck_parts::limit_in;
 use crate::delivery::deliver;
 use crate::failure::Failure;
 use crate::image::{WholeImage, read_image};
@@ -120,7 +121,7 @@ fn notes_on_image(
         notes = image_notes(alloc, options.at, read).ok()?;
     }
     if is_past_limit {
-        let limit = options.limit.unwrap_or(Limit::usual());
+        let limit = limit_in(options).unwrap_or(Limit::usual());
         notes
             .extend_from_slice(limit_note(alloc, limit).ok()?.as_bytes())
             .ok()?;

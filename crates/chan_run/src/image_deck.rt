@@ -15,6 +15,7 @@ ghost use Rattle.ccw_core.specs.declared.ccw.TheConstants.{STORAGE_LIMIT};
 ghost use Rattle.chan_deck.specs.declared.image_note.TheConstants.{USUAL_DEVICE};
 
 use crate::answer::no_job_text;
+use crate::deck_parts::limit_in;
 use crate::delivery::deliver;
 use crate::failure::Failure;
 use crate::image::{deck_text, read_image};
@@ -194,6 +195,6 @@ fn failure_advice(alloc: Global, options: &ImageOptions, failure: Failure) -> Op
     if !matches!(failure, Failure::TooManyPlaces) {
         return Some(Vec::new(alloc));
     }
-    let limit = options.limit.unwrap_or(Limit::usual());
+    let limit = limit_in(options).unwrap_or(Limit::usual());
     Some(limit_note(alloc, limit).ok()?.into_bytes())
 }

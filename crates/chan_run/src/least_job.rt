@@ -20,7 +20,7 @@ ghost use Rattle.chan_walk.specs.Job.{storage_of};
 ghost use Rattle.chan_args.specs.declared.image_options.ImageOptions.{ImageOptions};
 ghost use Rattle.ccw_core.specs.declared.ccw.TheConstants.{STORAGE_LIMIT};
 
-use crate::deck_parts::deck_parts;
+use crate::deck_parts::{deck_parts, limit_in};
 use crate::failure::Failure;
 use ccw_core::{Area, Storage};
 use chan_args::ImageOptions;
@@ -188,7 +188,7 @@ pub(crate) fn job_at<'a>(options: &'a ImageOptions, storage: Storage<'a>, start:
         extents: &options.extents,
         fetch: &options.fetch,
         store: &options.store,
-        limit: options.limit.unwrap_or(Limit::usual()),
+        limit: limit_in(options).unwrap_or(Limit::usual()),
     }
 }
 

@@ -6,6 +6,7 @@ ghost use Rattle.chan_deck.specs.PartsImage.{storage_with};
 ghost use Rattle.chan_run.specs.Image.{areas_over, open_deck};
 ghost use Rattle.ccw_core.specs.declared.ccw.TheConstants.{STORAGE_LIMIT};
 
+use crate::deck_parts::limit_in;
 use crate::least_job::extents_over;
 use ccw_core::Area;
 use chan_args::ImageOptions;
@@ -34,7 +35,7 @@ pub(crate) fn open_text(
     let extents = extents_over(alloc, &[])?;
     let areas = areas_over(alloc, options.at as usize, image)?;
     let parts = Parts {
-        limit: options.limit,
+        limit: limit_in(options),
         device: options.device,
         mask: FileMask::new(0xC0).unwrap(),
         start: options.start,

@@ -4,7 +4,6 @@ use crate::{Came, ask, came, check_least};
 use ccw_core::{Area, Watched};
 use chan_args::{Action, ImageOptions, RequestedJob};
 use chan_run::{Outcome, find_programs, make_deck};
-use chan_walk::Limit;
 use ckd_core::{Device, Extents, FileMask};
 use kit::alloc::Global;
 use kit::vec::Vec;
@@ -21,7 +20,7 @@ fn options(choices: &[u8], start: u32, job: RequestedJob) -> ImageOptions {
         device: if kind & 1 == 0 { Device::D2314 } else { Device::D2311 },
         mask: FileMask::new(mask & 0xD8).unwrap(),
         start,
-        limit: if kind & 2 == 0 { None } else { Limit::new(1 + 7 * u32::from(limit)) },
+        limit: if kind & 2 == 0 { None } else { Some(1 + 7 * u32::from(limit)) },
         extents: Extents::new(Global, &[(last / 2, last)]).ok().unwrap(),
         fetch: Vec::from_array(Global, [area(one, other)]).ok().unwrap(),
         store: Vec::from_array(Global, [area(other, one)]).ok().unwrap(),
