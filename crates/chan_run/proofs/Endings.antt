@@ -1,14 +1,20 @@
 -- What was judged, and what was written.
-use Rattle.std.proofs.Common.{◌≡◌, ◌∙◌, ◌↔◌, Bool, Err, IsErr, Ok, OnOk, Result, false, refl, sym, true}
+use Rattle.std.proofs.Common.{◌≡◌, ◌∙◌, ◌↔◌, Err, IsErr, Ok, OnOk, Result, false, refl, sym, true}
 use Rattle.chan_walk.specs.declared.job.Job.{Job}
 use Rattle.chan_args.specs.declared.action.Action.{Action}
 use Rattle.chan_args.specs.declared.action.Action.TheVariants as actions
+use Rattle.chan_walk.specs.OpenJob.{IsOpenJob}
+use Rattle.chan_run.specs.Manner.{manner_of}
 use Rattle.chan_run.specs.Output.{ActionJudges}
 
--- an action for which no open job is asked judges the job itself
-pub judges_itself : (a : Action) (j : Job) → ((deck : Bool) → a ≡ actions.Needs deck → ⊥) → ActionJudges a j j
-judges_itself (actions.Needs deck) j other = absurd (other deck refl)
-judges_itself a j other = refl
+-- the open job is judged, or the job itself
+pub judges_open : (a : Action) (j k : Job) → (manner_of a).judges_open ≡ true → IsOpenJob j k → ActionJudges a j k
+judges_open (actions.Needs deck) j k is granted = granted
+judges_open a j k is granted = absurd cc
+
+pub judges_itself : (a : Action) (j : Job) → (manner_of a).judges_open ≡ false → ActionJudges a j j
+judges_itself (actions.Needs deck) j is = absurd cc
+judges_itself a j is = refl
 
 -- what was done where no write failed
 pub written_if_sound : {A : Type 0} {E : Type 0} (r : Result (Unit {0}) E) (failed : _) → OnOk r A

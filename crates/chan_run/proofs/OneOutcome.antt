@@ -82,12 +82,8 @@ module _ (d : Image) (right : is_mask d.mask ≡ true) (j i : Job) (of : IsDeckJ
   plain k l h m = subst (λ x. AreAlike x l) (sym h) (subst (λ x. AreAlike j x) (sym m) of_deck)
 
   judged : (a : Action) (k l : Job) → ActionJudges a j k → ActionJudges a i l → AreAlike k l
-  judged actions.Verify k l h m = plain k l h m
-  judged (actions.List wide) k l h m = plain k l h m
-  judged (actions.Range start len) k l h m = plain k l h m
-  judged (actions.Why told) k l h m = plain k l h m
-  judged actions.Graph k l h m = plain k l h m
   judged (actions.Needs deck) k l h m = of_open k l h m
+  judged a k l h m = plain k l h m
 
 -- ---- their outcomes
 

@@ -6,7 +6,7 @@ pub mod Outcome
 pub mod OneCcw
 pub mod Image
 pub mod NoJob
-pub mod Advice
+pub mod Manner
 pub mod MadeDeck
 pub mod Texts
 pub mod Response

@@ -1,20 +1,22 @@
--- Which actions are advised on what they judge or refuse. Tests hold the texts of advice.
+-- How each action is answered. Tests hold the texts of advice.
 use Rattle.std.specs.Prelude.{Bool, false, true}
 use Rattle.chan_args.specs.declared.action.Action.{Action}
 use Rattle.chan_args.specs.declared.action.Action.TheVariants as actions
+use Rattle.chan_run.specs.declared.manner.Manner.{Manner}
 
--- the hint on a refused line comes whether or not the input has a name
-abbrev pub always_hints : Action → Bool
-always_hints (actions.Why told) = true
-always_hints actions.Graph = true
-always_hints _ = false
+-- whether the open job is judged, and whether the hint on a refused line and the limit on places
+-- are told whether or not the input has a name
+abbrev pub manner_with : Bool → Bool → Bool → Manner
+manner_with of_open hints limit =
+    record { judges_open = of_open; always_hints = hints; tells_limit = limit }
 
--- where too many places are reachable, the limit is told whether or not the input has a name; else
--- the answer over standard input is one line
-abbrev pub tells_limit : Action → Bool
-tells_limit actions.Verify = false
-tells_limit (actions.List wide) = false
-tells_limit _ = true
+abbrev pub manner_of : Action → Manner
+manner_of actions.Verify = manner_with false false false
+manner_of (actions.List wide) = manner_with false false false
+manner_of (actions.Range start len) = manner_with false false true
+manner_of (actions.Why told) = manner_with false true true
+manner_of (actions.Needs deck) = manner_with true false true
+manner_of actions.Graph = manner_with false true true
 
 -- there is advice on the verdict
 abbrev pub is_advised : Action → Bool

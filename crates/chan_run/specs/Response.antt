@@ -13,8 +13,8 @@ use Rattle.chan_walk.specs.Places.{HasMoreThan}
 use Rattle.chan_walk.specs.declared.job.Job.{Job}
 use Rattle.chan_walk.specs.declared.verdict.Verdict.{Verdict}
 use Rattle.chan_walk.specs.declared.verdict.Verdict.TheVariants.{Yes, No}
-use Rattle.chan_run.specs.Advice.{is_advised, always_hints, tells_limit}
 use Rattle.chan_run.specs.Input.{IsInput, IsReadFault}
+use Rattle.chan_run.specs.Manner.{is_advised, manner_of}
 use Rattle.chan_run.specs.Name.{name_of}
 use Rattle.chan_run.specs.Outcome.{IsCarriedOut, line_over}
 use Rattle.chan_run.specs.Output.{IsActionOutput, HoldsOfDeckJob, ActionJudges}
@@ -77,7 +77,7 @@ pub record IsLimitResponse (n : Naming) (a : Action) (j : Job) (r : Response) : 
   pub many : HasMoreThan j j.limit
   pub outcome : r.outcome ≡ Failed failures.TooManyPlaces
   pub output : r.output.items ≡ []
-  pub advice : IsWantedAdvice (is_some n.name || tells_limit a) (advice_in r.advice)
+  pub advice : IsWantedAdvice (is_some n.name || (manner_of a).tells_limit) (advice_in r.advice)
   pub note : r.note.now ≡ []
 
 -- the text isn't a deck; the hint comes if it is explained or drawn, or has a name
@@ -87,7 +87,7 @@ pub record IsRefusalResponse (n : Naming) (a : Action) (t : List ℕ) (r : Respo
   pub refused : IsRefused t line cause
   pub outcome : r.outcome ≡ Refused line cause
   pub output : r.output.items ≡ []
-  pub advice : IsWantedAdvice (is_some n.name || always_hints a) (advice_in r.advice)
+  pub advice : IsWantedAdvice (is_some n.name || (manner_of a).always_hints) (advice_in r.advice)
   pub note : r.note.now ≡ []
 
 -- the answer to what an action asks of a job: that of the job that it judges

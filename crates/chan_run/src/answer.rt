@@ -9,13 +9,14 @@ ghost use Rattle.chan_walk.specs.JobSurvey.{IsSurvey};
 ghost use Rattle.chan_walk.specs.Offence.{first_verdict};
 ghost use Rattle.chan_walk.specs.declared.verdict.Verdict.TheVariants.{Yes};
 ghost use Rattle.chan_why.specs.Findings.{AreFindings};
-ghost use Rattle.chan_run.specs.Advice.{always_hints, tells_limit};
+ghost use Rattle.chan_run.specs.Manner.{manner_of};
 ghost use Rattle.chan_run.specs.Name.{heading_of, name_before, name_in};
 ghost use Rattle.chan_run.specs.NoJob.{no_job_line};
 ghost use Rattle.chan_run.specs.Output.{IsActionOutput, IsNeeded, asked_by};
 ghost use Rattle.chan_run.specs.Response.{IsActionAnswer, IsWantedAdvice, advice_in};
 
 use crate::least_job::least_deck_text;
+use crate::manner::manner_of;
 use crate::name::{Naming, heading_of, named};
 use ccw_core::Area;
 use chan_args::{Action, Asked};
@@ -197,7 +198,7 @@ pub(crate) fn no_job_text(
     Ok(format!(in alloc; "chanv: {name}{mark}{no_job}: {why}")?)
 }
 
-/// The hint on a line that is refused, for `Why`, for `Graph` and for any input with a name.
+/// The hint on a line that is refused, if the action or the name of the input asks for it.
 pub(crate) fn refusal_advice(
     alloc: Global,
     naming: Naming<'_>,
@@ -206,44 +207,30 @@ pub(crate) fn refusal_advice(
     line: u64,
     cause: Cause,
 ) -> Option<Vec<u8>>
-    ensures { IsWantedAdvice (is_some naming.entry.name || always_hints action)
+    ensures { IsWantedAdvice (is_some naming.entry.name || (manner_of action).always_hints)
         (advice_in result) }
 {
-    if !(naming.name.is_some() || always_hints(action)) {
+    if !(naming.name.is_some() || manner_of(action).always_hints) {
         return Some(Vec::new(alloc));
     }
     let hint = hint_text(alloc, text, line, cause).ok()?;
     fronted_lines(alloc, naming, hint.as_slice()).ok()
 }
 
-/// Whether the hint on a line that is refused comes whether or not the input has a name.
-fn always_hints(action: Action) -> bool
-    ensures { result ≡ always_hints action }
-{
-    matches!(action, Action::Why(_) | Action::Graph)
-}
-
-/// What the limit on places is, and how it may be raised, unless the answer is one line.
+/// What the limit on places is, and how it may be raised, if the action or the name asks for it.
 pub(crate) fn limit_advice(
     alloc: Global,
     naming: Naming<'_>,
     action: Action,
     limit: Limit,
 ) -> Option<Vec<u8>>
-    ensures { IsWantedAdvice (is_some naming.entry.name || tells_limit action)
+    ensures { IsWantedAdvice (is_some naming.entry.name || (manner_of action).tells_limit)
         (advice_in result) }
 {
-    if !(naming.name.is_some() || tells_limit(action)) {
+    if !(naming.name.is_some() || manner_of(action).tells_limit) {
         return Some(Vec::new(alloc));
     }
     fronted(alloc, naming, limit_note(alloc, limit))
-}
-
-/// Whether the limit on places is told whether or not the input has a name.
-fn tells_limit(action: Action) -> bool
-    ensures { result ≡ tells_limit action }
-{
-    !matches!(action, Action::Verify | Action::List { .. })
 }
 
 /// A text with the name of one of several inputs before each line, unless memory ran out for it.

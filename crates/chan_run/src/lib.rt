@@ -29,6 +29,7 @@ mod input;
 mod judging;
 mod laws;
 mod least_job;
+mod manner;
 mod meanings;
 mod name;
 mod named_ccw;

@@ -11,6 +11,7 @@ ghost use Rattle.chan_run.specs.declared.outcome.Outcome.TheVariants.{Failed};
 
 use crate::answer::{answer_of, limit_advice, refusal_advice};
 use crate::failure::Failure;
+use crate::manner::manner_of;
 use crate::name::Naming;
 use crate::outcome::Outcome;
 use ccw_core::Storage;
@@ -107,8 +108,7 @@ fn respond_to_refused_text(
     }
 }
 
-/// The answer to what an action asks of a job: `Needs` judges its open job, any other action the
-/// job itself.
+/// The answer to what an action asks of a job, or of its open job.
 fn respond_to_job(
     alloc: Global,
     naming: Naming<'_>,
@@ -117,13 +117,11 @@ fn respond_to_job(
 ) -> Result<Response, AllocError>
     ensures { IfOk result (IsJobResponse naming.entry action job.now) }
 {
-    match action {
-        Action::Needs { .. } => {
-            let open = OpenJob::of(alloc, job)?;
-            respond_to_judged_job(alloc, naming, action, &open.job())
-        }
-        _ => respond_to_judged_job(alloc, naming, action, job),
+    if manner_of(action).judges_open {
+        let open = OpenJob::of(alloc, job)?;
+        return respond_to_judged_job(alloc, naming, action, &open.job());
     }
+    respond_to_judged_job(alloc, naming, action, job)
 }
 
 /// The answer to what an action asks of the job that it judges.
