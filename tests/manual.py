@@ -4,13 +4,15 @@ import re
 import shutil
 
 from building import ROOT, said_version, version
+from commands import commands
 from examples import EXAMPLES
 from running import Ran, run, run_in_bash, text_of
 
 PAGE, OUTPUT = ROOT / "docs/chanv.1", ROOT / "docs/OUTPUT.md"
 COMPLETIONS = ROOT / "docs/chanv.bash"
 VERSION = f"chanv {version()}\n"
-COMMANDS = ["verify", "list", "why", "needs", "graph", "find", "deck", "explain", "show"]
+COMMANDS = list(commands())
+OPTIONS = [(it.name, f"--{name}", value) for it in COMMANDS for name, value in it.options.items()]
 
 # what help and the manual page both say of an option
 SAID = [
@@ -61,8 +63,14 @@ def check_page(checks, program):
 
 
 def check_options(checks, program):
-    """The manual page says of an option what help says of it."""
+    """The manual page names each option, and says of some what help says of them."""
     section = text_of(PAGE).partition("\n.SH COMMANDS\n")[2].partition("\n.SH ")[0]
+    options = text_of(PAGE).partition("\n.SH OPTIONS\n")[2].partition("\n.SH ")[0]
+    for command, option, _ in OPTIONS:
+        its = section.partition(f"\n.SS {command} ")[2].partition("\n.SS ")[0]
+        _, _, its = its.partition("\n")
+        is_named = option.replace("-", "\\-") in its + options
+        checks.expect_that(f"the manual page explains {command} {option}", is_named, its)
     for command, option, said in SAID:
         its = section.partition(f"\n.SS {command} ")[2].partition("\n.SS ")[0]
         of_page = its.partition(f"\nWith\n.B \\-\\-{option}\n")[2].partition("\nWith\n")[0]
@@ -135,7 +143,7 @@ def check_completions(checks, program):
     first = [word for word in completed("") if not word.startswith("-")]
     checks.expect("the commands that are completed", commands, first)
     checks.expect("the commands that help completes", commands, completed("help", ""))
-    for words in ([], *[[command] for command in COMMANDS]):
+    for words in ([], *[[it.name] for it in COMMANDS]):
         said = run(program, *words, "--help").output
         options = sorted(re.findall(r"(?m)^ +(?:-\w, )?(--[a-z]*)", said))
         name = f"the options that are completed: chanv {' '.join(words)}"
@@ -146,19 +154,15 @@ def check_completions(checks, program):
         devices = completed("deck", *words)
         checks.expect(f"the devices that are completed: {words}", ["2311", "2314"], devices)
     page = str(PAGE)
-    for words in (
-        ["verify", page[:-2]],
-        ["deck", "--start", "800", "--least", page[:-2]],
-        ["deck", "--open", page[:-2]],
-        ["why", "--all", page[:-2]],
-        ["why", "--of", "810", page[:-2]],
-        ["list", "--wide", page[:-2]],
-        ["needs", "--deck", page[:-2]],
-    ):
-        checks.expect_that(f"a file after {words[:-1]}", page in completed(*words), words)
-    values = (["deck", "--start"], ["why", "--of"], ["list", "--range"])
-    for words in (*values, ["show"], ["explain"], ["help"]):
+    for command, option, value in OPTIONS:
+        words = [command, option, *filter(None, [value])]
+        is_there = page in completed(*words, page[:-2])
+        checks.expect(f"a file after {words}", command != "show", is_there)
+        if value and option != "--device":
+            checks.expect(f"no file as {words}", [""], completed(command, option, page[:-2]))
+    for words in (["show"], ["explain"], ["help"]):
         checks.expect(f"no file after {words[-1]}", [""], completed(*words, page[:-2]))
+    checks.expect_that("a file after verify", page in completed("verify", page[:-2]), page)
     ran = run_in_bash('source "$1" && complete -p chanv', COMPLETIONS)
     wanted = Ran(0, "complete -o filenames -F _chanv chanv\n")
     checks.expect("files are completed as file names, with a slash after a folder", wanted, ran)
