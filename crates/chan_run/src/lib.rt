@@ -34,7 +34,6 @@ mod meanings;
 mod name;
 mod named_ccw;
 mod one_ccw;
-mod open_deck;
 mod outcome;
 mod response;
 mod texts;
