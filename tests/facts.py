@@ -239,7 +239,7 @@ def check_machine_stores(checks):
 
 def check_walks(checks):
     """Each page that says how often `chanv_take_in` walks says what the code does."""
-    source = text_of(ROOT / "crates/chanv_c/src/needs.rt")
+    source = text_of(ROOT / "crates/chanv_c/src/take_in.rt")
     walks = len(re.findall(r"\bmatch needs_of\(", source))
     pages = [ROOT / "CHANGELOG.md", ROOT / "bench/README.md", *sorted(DOCS.glob("*.md"))]
     how = r"chanv_take_in (?:judges|walks|surveys)[^.]*?\b(once|twice)\b"

@@ -16,7 +16,7 @@ PLACES = [
     ),
     ("crates/chanv_c/specs/Version.antt", r"(?m)^-- (.*?): its three numbers"),
     ("crates/chanv_c/specs/Version.antt", r"65536 \* (\d+) \+ 256 \* (\d+) \+ (\d+)"),
-    ("crates/chanv_c/src/version.rt", r"= \((\d+), (\d+), (\d+)\);"),
+    ("crates/chanv_c/src/library_version.rt", r"= \((\d+), (\d+), (\d+)\);"),
     ("docs/EMBEDDING.md", r"header's version, such as `(.*?)`"),
     ("docs/chanv.1", r'"chanv (\d.*?)"'),
     ("python/chanv/_c.py", r'VERSION = "(.*)"'),

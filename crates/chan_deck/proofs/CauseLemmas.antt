@@ -1,5 +1,5 @@
 -- The cause for which a line is refused is the first of the table that applies.
-use Rattle.chan_deck.proofs.Names.{[], after_item, after_line, ap, append_assoc, Area, arith, Bool, Cause, cond, cond_both, device, end, Err, extent, extent_of, false, fetch, Filling, FoundLine, header, Heading, Image, is_empty, is_limit, is_mask, is_second, is_size, is_whole, is_zero, IsDeckCause, Item, items, LAST_CYLINDER, last_of, le-leb, length, limit, limit_line, line, LineSays, LineSaysIfAny, List, Listing, lit<, ltb, ltb-false, ltb-true, map, mask, Masked, MatchBool, Named, nat_le, nat_lt, nat_tests, None, on_extent, on_put, OnDevice, One, Opening, Option, part, put, puts, rank, refl, Result, Some, stands, start, Started, State, step, storage, store, subst, sym, true, Two, Version, VersionNumber, Whole, whole_line, ℕ, ◌%◌, ◌++◌, ◌+◌, ◌/◌, ◌<◌, ◌==◌, ◌∙◌, ◌∷◌, ◌≡◌, ◌≤◌}
+use Rattle.chan_deck.proofs.Names.{[], after_item, after_line, ap, append_assoc, Area, arith, Bool, Cause, cond, cond_both, device, end, Err, extent, extent_of, false, fetch, Filling, FoundLine, header, Heading, DeckValue, is_empty, is_limit, is_mask, is_second, is_size, is_whole, is_zero, IsDeckCause, Item, items, LAST_CYLINDER, last_of, le-leb, length, limit, limit_line, line, LineSays, LineSaysIfAny, List, Listing, lit<, ltb, ltb-false, ltb-true, map, mask, Masked, MatchBool, Named, nat_le, nat_lt, nat_tests, None, on_extent, on_put, OnDevice, One, Opening, Option, part, put, puts, rank, refl, Result, Some, stands, start, Started, State, step, storage, store, subst, sym, true, Two, Version, VersionNumber, Whole, whole_line, ℕ, ◌%◌, ◌++◌, ◌+◌, ◌/◌, ◌<◌, ◌==◌, ◌∙◌, ◌∷◌, ◌≡◌, ◌≤◌}
 use Rattle.std.specs.Prelude.{◌≢◌, ◌&&◌}
 use Rattle.std.specs.Result.{IfErr}
 use Rattle.std.proofs.lemmas.Result.{IfErr-at_err}
@@ -224,7 +224,7 @@ follows_after (whole_line l) causes.After h = refl
 follows_after (part (b ∷ rest)) causes.After h = refl
 follows_after found c h = absurd h
 
-pub after_cause : (d : Image) (found : FoundLine) → AppliesBehindEnd found causes.After → IsDeckCause (items d) found causes.After
+pub after_cause : (d : DeckValue) (found : FoundLine) → AppliesBehindEnd found causes.After → IsDeckCause (items d) found causes.After
 after_cause d found applies =
     let h : Heading = record { version = d.version; device = d.device; mask = d.mask; start = d.start } in
     let opened = lists h d.extents d.fetch d.store ++ storage (length d.storage) ∷ puts (length d.storage / 8) 0 d.storage in

@@ -1,5 +1,5 @@
 -- A deck's lines are read as that deck, and whatever has been read can go on to be a deck.
-use Rattle.chan_deck.proofs.Names.{[], AllByRecursion, and_parts, and_then, ap, append-nil, append_assoc, Area, AreExtents, arith, Cause, cond_both, D2311, Device, device, drop, end, eqb-true, Err, extent, extent_of, false, fetch, Filling, HasForm, HasLimit, header, header_of, Heading, Image, image_of, is_mask, is_size, is_zero, IsDeck, IsExtent, Item, items, LAST_CYLINDER, le-leb, le-ltb, length, length-append, length-drop, length-take, limit, limit_line, List, Listing, lit<, map, mask, Masked, Named, Ok, OnDevice, One, Opening, pad, put, puts, refl, replicate, replicate-append-replicate, Result, run, start, Started, State, step, storage, STORAGE_LIMIT, store, subst, suc, sym, take, take-append-drop, true, Two, Version, Whole, zero, ℕ, ◌%◌, ◌*◌, ◌++◌, ◌+◌, ◌-◌, ◌/◌, ◌==◌, ◌∙◌, ◌∷◌, ◌≡◌, ◌≤◌}
+use Rattle.chan_deck.proofs.Names.{[], AllByRecursion, and_parts, and_then, ap, append-nil, append_assoc, Area, AreExtents, arith, Cause, cond_both, D2311, Device, device, drop, end, eqb-true, Err, extent, extent_of, false, fetch, Filling, HasForm, HasLimit, header, header_of, Heading, DeckValue, value_of, is_mask, is_size, is_zero, IsDeck, IsExtent, Item, items, LAST_CYLINDER, le-leb, le-ltb, length, length-append, length-drop, length-take, limit, limit_line, List, Listing, lit<, map, mask, Masked, Named, Ok, OnDevice, One, Opening, pad, put, puts, refl, replicate, replicate-append-replicate, Result, run, start, Started, State, step, storage, STORAGE_LIMIT, store, subst, suc, sym, take, take-append-drop, true, Two, Version, Whole, zero, ℕ, ◌%◌, ◌*◌, ◌++◌, ◌+◌, ◌-◌, ◌/◌, ◌==◌, ◌∙◌, ◌∷◌, ◌≡◌, ◌≤◌}
 use Rattle.chan_deck.proofs.PutLemmas.{length_pad}
 use Rattle.chan_deck.proofs.LineRefusals.{good_size}
 use Rattle.chan_deck.proofs.StepLemmas.{said, IsState, step-says}
@@ -123,7 +123,7 @@ by_version One v m a more limited is = rw is refl
 by_version (Two n) v m a more limited is = rw (is, le-leb 1 n limited.0, le-leb n 65536 limited.1) refl
 
 -- a deck's lines are read as that deck
-pub reads_deck : (d : Image) → IsDeck d → run Opening (items d) ≡ Ok (Whole d)
+pub reads_deck : (d : DeckValue) → IsDeck d → run Opening (items d) ≡ Ok (Whole d)
 reads_deck d is =
     let h : Heading = record { version = d.version; device = d.device; mask = d.mask; start = d.start } in
     let size = length d.storage in
@@ -145,7 +145,7 @@ reads_deck d is =
     ∙ ap (λ r. and_then r (λ t. run t (storage size ∷ P))) (over_lists h d.extents d.fetch d.store is.extents)
     ∙ ap (λ r. and_then r (λ t. run t P)) (good_size h d.fetch d.store d.extents size is.extents.0 right)
     ∙ filled.1)
-    ∙ ap (λ b. Ok (Whole (image_of h d.extents d.fetch d.store b))) full
+    ∙ ap (λ b. Ok (Whole (value_of h d.extents d.fetch d.store b))) full
 
 -- ---- what has been read can go on
 
@@ -157,7 +157,7 @@ last_form : AllByRecursion HasForm last_lines
 last_form = ((lit< tt, lit< tt), (lit< tt, (tt, tt)))
 
 -- some more lines make a deck of it
-pub completes : (s : State) → IsState s → (js : List Item) × (d : Image) × AllByRecursion HasForm js × (run s js ≡ Ok (Whole d))
+pub completes : (s : State) → IsState s → (js : List Item) × (d : DeckValue) × AllByRecursion HasForm js × (run s js ≡ Ok (Whole d))
 completes Opening is =
     (header numbers.One ∷ device D2311 ∷ mask 0 ∷ start 0 ∷ last_lines, _, (tt, (tt, (lit< tt, (lit< tt, last_form)))), refl)
 completes (Named numbers.One) is = (device D2311 ∷ mask 0 ∷ start 0 ∷ last_lines, _, (tt, (lit< tt, (lit< tt, last_form))), refl)

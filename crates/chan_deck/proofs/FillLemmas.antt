@@ -1,5 +1,5 @@
 -- Filling storage: the bytes behind the last put are zeros until a put writes there.
-use Rattle.chan_deck.proofs.Names.{and_parts, ap, Area, arith, drop, drop-drop, drop-replicate, drop_at, end, eqb-true, Err, false, false_from_ne_true, Filling, from_be_bytes, Heading, image_of, is_zero, le-leb, leb-true, length, length-append, length-drop, length-take, List, nat_le, Ok, pad, put, refl, replicate, step, sym, take, take-append-add, take-append-drop, take-replicate, take_at, to_be_bytes, true, w64, Whole, ℕ, ◌&&◌, ◌++◌, ◌+◌, ◌-◌, ◌<◌, ◌==◌, ◌^◌, ◌∙◌, ◌≡◌, ◌≤◌}
+use Rattle.chan_deck.proofs.Names.{and_parts, ap, Area, arith, drop, drop-drop, drop-replicate, drop_at, end, eqb-true, Err, false, false_from_ne_true, Filling, from_be_bytes, Heading, value_of, is_zero, le-leb, leb-true, length, length-append, length-drop, length-take, List, nat_le, Ok, pad, put, refl, replicate, step, sym, take, take-append-add, take-append-drop, take-replicate, take_at, to_be_bytes, true, w64, Whole, ℕ, ◌&&◌, ◌++◌, ◌+◌, ◌-◌, ◌<◌, ◌==◌, ◌^◌, ◌∙◌, ◌≡◌, ◌≤◌}
 use Rattle.std.specs.Prelude.{◌%◌}
 use Rattle.std.proofs.lemmas.Nat.{from_be_bytes-to_be_bytes_8}
 use Rattle.chan_deck.proofs.DeckRuns.{put_step, zeros_is}
@@ -90,5 +90,5 @@ take_all S next h z =
 -- the line `end` gives the deck with these bytes
 pub end_goes : (h : Heading) (es : List (ℕ × ℕ)) (fs ss : List Area) (next : ℕ) (S : List ℕ)
     → next ≤ length S → drop next S ≡ replicate (length S - next) 0
-    → step (Filling h es fs ss (length S) (take next S)) end ≡ Ok (Whole (image_of h es fs ss S))
-end_goes h es fs ss next S within zeros = ap (λ b. Ok (Whole (image_of h es fs ss b))) (take_all S next within zeros)
+    → step (Filling h es fs ss (length S) (take next S)) end ≡ Ok (Whole (value_of h es fs ss S))
+end_goes h es fs ss next S within zeros = ap (λ b. Ok (Whole (value_of h es fs ss b))) (take_all S next within zeros)

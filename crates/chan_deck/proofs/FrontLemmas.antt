@@ -1,5 +1,5 @@
 -- The lines of a text, and where it is refused.
-use Rattle.chan_deck.proofs.Names.{[], all_append, AllByRecursion, and_then, ap, append-nil, append_assoc, arith, Cause, cond, cond_both, device, drop, end, eqb-true, Err, extent_of, false, fetch, flat_map-append, HasForm, HasLimit, HasRead, header, header_of, Image, is_zero, IsArea, IsByte, IsDeck, IsExtent, IsRefusedAt, Item, items, length, length-append, length-drop, length-map, length-take, limit_line, line, lines, LineSays, List, map, map-append, mask, Ok, One, Opening, puts, refl, Result, run, spelling, Spells, split, start, State, step, storage, STORAGE_LIMIT, store, suc, sym, take, take-append-add, take-append-drop, take-append-le, text, Two, Version, Whole, zero, ℕ, ◌*◌, ◌++◌, ◌+◌, ◌/◌, ◌<◌, ◌==◌, ◌^◌, ◌∙◌, ◌∷◌, ◌≡◌, ◌≤◌}
+use Rattle.chan_deck.proofs.Names.{[], all_append, AllByRecursion, and_then, ap, append-nil, append_assoc, arith, Cause, cond, cond_both, device, drop, end, eqb-true, Err, extent_of, false, fetch, flat_map-append, HasForm, HasLimit, HasRead, header, header_of, DeckValue, is_zero, IsArea, IsByte, IsDeck, IsExtent, IsRefusedAt, Item, items, length, length-append, length-drop, length-map, length-take, limit_line, line, lines, LineSays, List, map, map-append, mask, Ok, One, Opening, puts, refl, Result, run, spelling, Spells, split, start, State, step, storage, STORAGE_LIMIT, store, suc, sym, take, take-append-add, take-append-drop, take-append-le, text, Two, Version, Whole, zero, ℕ, ◌*◌, ◌++◌, ◌+◌, ◌/◌, ◌<◌, ◌==◌, ◌^◌, ◌∙◌, ◌∷◌, ◌≡◌, ◌≤◌}
 use Rattle.chan_deck.proofs.Elements.{all_take, all_drop, all_map}
 use Rattle.chan_deck.specs.Refused.{first_lines, onto_first, BeginsSomeDeck}
 use Rattle.chan_deck.proofs.ItemLemmas.{HasNoFeed, line_no_feed, one_item}
@@ -74,7 +74,7 @@ limit_form One h = tt
 limit_form (Two n) h = (omega (arith, h.1), tt)
 
 -- each line of a deck has its form
-pub items_form : (d : Image) → IsDeck d → AllByRecursion HasForm (items d)
+pub items_form : (d : DeckValue) → IsDeck d → AllByRecursion HasForm (items d)
 items_form d is =
     let n = length d.storage in
     let P = puts (n / 8) 0 d.storage in
@@ -93,7 +93,7 @@ items_form d is =
     let with_puts = all_append HasForm (H ++ E ++ F ++ S) (storage n ∷ P) with_store filled in
     all_append HasForm (H ++ E ++ F ++ S ++ storage n ∷ P) (end ∷ []) with_puts (tt, tt)
 
-pub split_deck : (d : Image) → split (spelling d) ≡ (map line (items d), [])
+pub split_deck : (d : DeckValue) → split (spelling d) ≡ (map line (items d), [])
 unfolding split
 split_deck d =
     ap (λ x. split x) (sym (append-nil (spelling d))) ∙ split_text (map line (items d)) [] (no_feeds_said (items d))
@@ -101,7 +101,7 @@ split_deck d =
 
 -- lines with which a deck's text begins are its first lines
 pub front_lines : (ls : List Line) → AllByRecursion HasNoFeed ls → BeginsSomeDeck (text ls)
-    → (d : Image) × (more : List Line) × IsDeck d × (map line (items d) ≡ ls ++ more)
+    → (d : DeckValue) × (more : List Line) × IsDeck d × (map line (items d) ≡ ls ++ more)
 front_lines ls h f =
     (f.0, (split f.1).0, f.2.0, ap (λ (p : List Line × List ℕ). p.0) (sym (split_deck f.0) ∙ ap (λ x. split x) (sym f.2.1) ∙ split_text ls f.1 h))
 
@@ -132,7 +132,7 @@ said_once (i ∷ is) (j ∷ js) hi hj e =
     ap (λ x. x ∷ is) (one_item i j hi.0 hj.0 first) ∙ ap (λ (t : List Item). j ∷ t) (said_once is js hi.1 hj.1 others)
 
 -- no text spells two decks
-pub one_deck : (d e : Image) → IsDeck d → IsDeck e → spelling d ≡ spelling e → d ≡ e
+pub one_deck : (d e : DeckValue) → IsDeck d → IsDeck e → spelling d ≡ spelling e → d ≡ e
 one_deck d e is js same =
     let lines_same : map line (items d) ≡ map line (items e) =
     ap (λ (p : List Line × List ℕ). p.0) (sym (split_deck d) ∙ ap (λ x. split x) same ∙ split_deck e) in
@@ -199,7 +199,7 @@ no_front t s n rest l after c st e all f =
     not_ok (step s same.0) (Whole d.0) c (λ q. run q same.1) (all same.0 same.2) goes
 
 -- the first lines of a deck's text are a front
-pub whole_front : (t : List ℕ) (n : ℕ) (d : Image) → Spells t d → BeginsSomeDeck (first_lines n t)
+pub whole_front : (t : List ℕ) (n : ℕ) (d : DeckValue) → Spells t d → BeginsSomeDeck (first_lines n t)
 whole_front t n d sp = (
   d,
   text (drop n (lines t)) ++ (split t).1,

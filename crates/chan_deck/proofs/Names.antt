@@ -3,12 +3,12 @@ pub use Rattle.ccw_core.proofs.Prefixes.{prefix_of_more}
 pub use Rattle.ccw_core.specs.Written.{AppendsPrefix}
 pub use Rattle.ccw_core.specs.declared.areas.Area.{Area}
 pub use Rattle.ccw_core.specs.declared.ccw.TheConstants.{STORAGE_LIMIT}
-pub use Rattle.chan_deck.specs.Image.{extent_of, HasLimit, header_of, Image, is_zero, IsDeck, items, limit_line, spelling, Spells}
+pub use Rattle.chan_deck.specs.DeckValue.{extent_of, HasLimit, header_of, DeckValue, is_zero, IsDeck, items, limit_line, spelling, Spells}
 pub use Rattle.chan_deck.specs.Item.{address_digits, area_digits, byte_digits, cylinder_digits, device, end, extent, fetch, HasForm, header, IsAddress, IsArea, IsByte, Item, limit, line, LineReads, LineSays, LineSaysIfAny, mask, put, said_by, size_digits, start, storage, store, text}
 pub use Rattle.chan_deck.specs.Listing.{marked_row, seen_row}
 pub use Rattle.chan_deck.specs.Needs.{in_six_digits, keep_line}
-pub use Rattle.chan_deck.specs.PartsImage.{image_of_parts, storage_with, zeros}
-pub use Rattle.chan_deck.specs.Reading.{after_item, after_line, and_then, begun_state, Filling, HasRead, image_of, is_empty, is_whole, IsDeckError, Listing, Masked, Named, on_extent, on_put, OnDevice, Opening, pad, ReadingGoesOn, run, stands, Started, State, step, Whole, with_lists}
+pub use Rattle.chan_deck.specs.PartsValue.{value_of_parts, storage_with, zeros}
+pub use Rattle.chan_deck.specs.Reading.{after_item, after_line, and_then, begun_state, Filling, HasRead, value_of, is_empty, is_whole, IsDeckError, Listing, Masked, Named, on_extent, on_put, OnDevice, Opening, pad, ReadingGoesOn, run, stands, Started, State, step, Whole, with_lists}
 pub use Rattle.chan_deck.specs.Refused.{FoundLine, is_limit, is_second, is_size, IsDeckCause, IsRefusedAt, last_of, lines, part, rank, whole_line}
 pub use Rattle.chan_deck.specs.VerdictLine.{address_text, verdict_line}
 pub use Rattle.chan_deck.specs.declared.cause.Cause.{Cause}
@@ -40,6 +40,6 @@ pub use Rattle.std.specs.Int.{bytes_high_first, from_be_bytes, next_multiple_of,
 pub use Rattle.std.specs.Io.KnownBytes.{Appends}
 pub use Rattle.std.specs.List.{AllByRecursion, flat_map, list_any}
 pub use Rattle.std.specs.Prelude.{nat_le, nat_lt, not, position, ◌==◌}
-unfoldable pub use Rattle.chan_deck.specs.Image.{puts}
+unfoldable pub use Rattle.chan_deck.specs.DeckValue.{puts}
 unfoldable pub use Rattle.chan_deck.specs.Refused.{split}
 unfoldable pub use Rattle.hex.specs.Hex.{encode_with}

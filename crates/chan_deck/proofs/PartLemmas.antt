@@ -1,7 +1,7 @@
 -- The parts of a deck: its areas, and the storage of an image.
-use Rattle.chan_deck.proofs.Names.{[], all_append, AllByRecursion, ap, append_assoc, AreExtents, arith, drop, drop-replicate, Err, get_or, HasLimit, image_of_parts, is_mask, IsByte, IsDeck, length, length-append, length-replicate, List, next_multiple_of, Ok, replicate-append-replicate, Result, STORAGE_LIMIT, storage_with, suc, sym, take, take-replicate, true, zero, zeros, ℕ, ◌%◌, ◌*◌, ◌++◌, ◌+◌, ◌-◌, ◌/◌, ◌<◌, ◌∙◌, ◌∷◌, ◌≡◌, ◌≤◌}
+use Rattle.chan_deck.proofs.Names.{[], all_append, AllByRecursion, ap, append_assoc, AreExtents, arith, drop, drop-replicate, Err, get_or, HasLimit, value_of_parts, is_mask, IsByte, IsDeck, length, length-append, length-replicate, List, next_multiple_of, Ok, replicate-append-replicate, Result, STORAGE_LIMIT, storage_with, suc, sym, take, take-replicate, true, zero, zeros, ℕ, ◌%◌, ◌*◌, ◌++◌, ◌+◌, ◌-◌, ◌/◌, ◌<◌, ◌∙◌, ◌∷◌, ◌≡◌, ◌≤◌}
 use Rattle.std.proofs.Common.{IfOk, OnOk}
-use Rattle.chan_deck.specs.PartsImage.{HasShortAddresses, version_with}
+use Rattle.chan_deck.specs.PartsValue.{HasShortAddresses, version_with}
 use Rattle.chan_deck.specs.declared.parts.Parts.{Parts}
 use Rattle.chan_deck.proofs.StepLemmas.{bytes_pad, bytes_zeros}
 
@@ -58,7 +58,7 @@ length_storage at image =
 -- parts whose image isn't too long, and whose numbers have six digits, make a deck
 pub parts_deck : (p : Parts) → p.at + length p.image.now ≤ STORAGE_LIMIT → HasShortAddresses p
     → HasLimit (version_with p.limit) → IsByte p.mask × (is_mask p.mask ≡ true)
-    → AreExtents p.extents.now → AllByRecursion IsByte p.image.now → IsDeck (image_of_parts p)
+    → AreExtents p.extents.now → AllByRecursion IsByte p.image.now → IsDeck (value_of_parts p)
 parts_deck p short right limited masked cylinders bytes =
     let len = length_storage p.at p.image.now in
     let front = zeros p.at ++ p.image.now in

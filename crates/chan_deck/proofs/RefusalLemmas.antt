@@ -1,9 +1,9 @@
 -- What one line more does to where reading stands: it goes on, or the text is refused there, or it has spelled a deck.
-use Rattle.chan_deck.proofs.Names.{[], after_line, all_append, and_then, ap, append-nil, append_assoc, arith, Cause, drop, Err, false, FoundLine, HasForm, HasRead, Image, inl, inr, is_whole, IsDeckCause, IsDeckError, IsRefusedAt, Item, items, length, length-append, length-map, line, lines, LineSaysIfAny, List, map, map-append, MatchBool, nat_tests, None, Ok, Opening, Option, part, position, rank, refl, Result, run, Some, Spells, split, State, subst, sym, take, text, Whole, whole_line, ℕ, ◌++◌, ◌+◌, ◌-◌, ◌<◌, ◌==◌, ◌∙◌, ◌∷◌, ◌≡◌, ◌⊎◌}
+use Rattle.chan_deck.proofs.Names.{[], after_line, all_append, and_then, ap, append-nil, append_assoc, arith, Cause, drop, Err, false, FoundLine, HasForm, HasRead, DeckValue, inl, inr, is_whole, IsDeckCause, IsDeckError, IsRefusedAt, Item, items, length, length-append, length-map, line, lines, LineSaysIfAny, List, map, map-append, MatchBool, nat_tests, None, Ok, Opening, Option, part, position, rank, refl, Result, run, Some, Spells, split, State, subst, sym, take, text, Whole, whole_line, ℕ, ◌++◌, ◌+◌, ◌-◌, ◌<◌, ◌==◌, ◌∙◌, ◌∷◌, ◌≡◌, ◌⊎◌}
 use Rattle.std.proofs.Math.Seq.{take-append_seam, drop-append_seam}
 use Rattle.chan_deck.specs.Refused.{found_in, found_behind, AreSaid, IsRefused}
-use Rattle.chan_deck.specs.declared.error.DeckError.{DeckError}
-use Rattle.chan_deck.specs.declared.error.DeckError.TheVariants as errors
+use Rattle.chan_deck.specs.declared.deck_error.DeckError.{DeckError}
+use Rattle.chan_deck.specs.declared.deck_error.DeckError.TheVariants as errors
 use Rattle.chan_deck.proofs.ItemLemmas.{line_read}
 use Rattle.chan_deck.proofs.LineFeeds.{some_line, no_line}
 use Rattle.chan_deck.proofs.StepLemmas.{said}
@@ -72,13 +72,13 @@ refuses_line t s n rest l after o c st e said bad =
           (line_cause s l o c (is_state t s n rest st) said bad);
     }
 
-not_whole : {A : Type 0} (s : State) (d : Image) (r : Result State Cause) → is_whole s ≡ false → r ≡ Ok s → r ≡ Ok (Whole d) → A
+not_whole : {A : Type 0} (s : State) (d : DeckValue) (r : Result State Cause) → is_whole s ≡ false → r ≡ Ok s → r ≡ Ok (Whole d) → A
 not_whole s d r e f g =
     let same : s ≡ Whole d = cc in
     absurd (cc (ap is_whole same, e))
 
 -- a deck whose lines these are has been read
-deck_read : (t : List ℕ) (s : State) (n : ℕ) (rest : List ℕ) (d : Image) (st : HasRead t s n rest) → Spells t d
+deck_read : (t : List ℕ) (s : State) (n : ℕ) (rest : List ℕ) (d : DeckValue) (st : HasRead t s n rest) → Spells t d
     → (split rest).0 ≡ [] → (run Opening st.said ≡ Ok (Whole d)) × ((split rest).1 ≡ [])
 deck_read t s n rest d st spells none =
     let same : (map line st.said ++ (split rest).0, (split rest).1) ≡ (map line (items d), []) =
@@ -109,12 +109,12 @@ first_by t None e = inr (no_line t (sym e))
 pub stands_first : (t : List ℕ) → StandsFirst t
 stands_first t = first_by t (position (λ b. b == 10) t) refl
 
-none_more : (d : Image) (o : Option Item) → after_line (Whole d) o ≡ Err causes.After
+none_more : (d : DeckValue) (o : Option Item) → after_line (Whole d) o ≡ Err causes.After
 none_more d None = refl
 none_more d (Some i) = refl
 
 -- a byte follows `end`
-pub refuses_more : (t : List ℕ) (d : Image) (n b : ℕ) (rest : List ℕ) → HasRead t (Whole d) n (b ∷ rest) → IsRefused t n causes.After
+pub refuses_more : (t : List ℕ) (d : DeckValue) (n b : ℕ) (rest : List ℕ) → HasRead t (Whole d) n (b ∷ rest) → IsRefused t n causes.After
 refuses_more t d n b rest st =
     elim (stands_first (b ∷ rest)) [
       | inl x ↦
@@ -134,7 +134,7 @@ refuses_more t d n b rest st =
 -- ---- decks
 
 -- the text has been read to its end
-pub spells_deck : (t : List ℕ) (d : Image) (n : ℕ) → HasRead t (Whole d) n [] → Spells t d
+pub spells_deck : (t : List ℕ) (d : DeckValue) (n : ℕ) → HasRead t (Whole d) n [] → Spells t d
 unfolding split
 spells_deck t d n st =
     let parts : split t ≡ (map line st.said, []) = st.parts ∙ ap (λ x. (x, [])) (append-nil (map line st.said)) in
@@ -145,7 +145,7 @@ spells_deck t d n st =
     )
 
 -- the line `end` was read: a deck ends there, or a byte follows
-pub ends : (t : List ℕ) (d : Image) (n : ℕ) (rest : List ℕ) → HasRead t (Whole d) n rest
+pub ends : (t : List ℕ) (d : DeckValue) (n : ℕ) (rest : List ℕ) → HasRead t (Whole d) n rest
     → MatchBool (length rest == 0) (Spells t d) (IsRefused t n causes.After)
 ends t d n [] st = spells_deck t d n st
 ends t d n (b ∷ rest) st =
@@ -189,5 +189,5 @@ refusal_only t (errors.At m b) n c h refused =
     inr (ap (λ x. errors.At x b) one.0 ∙ ap (λ x. errors.At n x) one.1)
 refusal_only t errors.Memory n c h refused = inl refl
 
-pub same_deck : (t : List ℕ) (d e : Image) → Spells t d → Spells t e → d ≡ e
+pub same_deck : (t : List ℕ) (d e : DeckValue) → Spells t d → Spells t e → d ≡ e
 same_deck t d e hd he = one_deck d e hd.0 he.0 (sym hd.1 ∙ he.1)

@@ -1,11 +1,11 @@
 -- Decks that compare as equal are one.
-use Rattle.chan_deck.proofs.Names.{and_parts, ap, Area, arith, bytes_eq-Decides, D2311, D2314, Decides, Device, eqb-true, Image, List, One, refl, sym, true, Two, Version, ℕ, ◌&&◌, ◌∙◌, ◌≡◌}
+use Rattle.chan_deck.proofs.Names.{and_parts, ap, Area, arith, bytes_eq-Decides, D2311, D2314, Decides, Device, eqb-true, DeckValue, List, One, refl, sym, true, Two, Version, ℕ, ◌&&◌, ◌∙◌, ◌≡◌}
 use Rattle.std.specs.Prelude.{nat_eq}
 use Rattle.std.proofs.lemmas.Bool.{eq-eqb, and_from}
 use Rattle.std.proofs.lemmas.Slice.Eq.{slice_eq-Decides}
 use Rattle.ckd_core.proofs.CylinderLemmas.{same_extents-decides}
 use Rattle.ckd_core.specs.Extents.{same_extents}
-use Rattle.chan_deck.specs.Image.{version_number, limit_of}
+use Rattle.chan_deck.specs.DeckValue.{version_number, limit_of}
 use Rattle.chan_deck.specs.SameDecks.{model_of, same_areas, same_versions, same_decks, same_decks-IsEquivalence}
 
 abbrev pair : ℕ → ℕ → ℕ × ℕ
@@ -37,7 +37,7 @@ one_version (Two a) (Two b) n l = ap Two l
 one_version One (Two b) n l = absurd (omega arith)
 one_version (Two a) One n l = absurd (omega arith)
 
-pub same_is : (d e : Image) → same_decks d e ≡ true → d ≡ e
+pub same_is : (d e : DeckValue) → same_decks d e ≡ true → d ≡ e
 same_is d e h =
     let v = and_parts (same_versions d.version e.version) _ h in
     let n = and_parts (nat_eq (version_number d.version) (version_number e.version)) _ v.0 in
@@ -62,5 +62,5 @@ same_is d e h =
     ∙ ap (λ v. record e { fetch = v; store = d.store; storage = d.storage }) fetch
     ∙ ap (λ v. record e { store = v; storage = d.storage }) store ∙ ap (λ v. record e { storage = v }) storage
 
-pub is_same : (d e : Image) → d ≡ e → same_decks d e ≡ true
+pub is_same : (d e : DeckValue) → d ≡ e → same_decks d e ≡ true
 is_same d e h = ap (λ x. same_decks d x) (sym h) ∙ same_decks-IsEquivalence.refl d

@@ -1,5 +1,5 @@
 -- What has been said where reading stands, and that a step says one line more.
-use Rattle.chan_deck.proofs.Names.{[], after_item, all_append, AllByRecursion, and_parts, ap, append-nil, append_assoc, Area, arith, Cause, cond_both, Device, device, end, eqb-true, extent, extent_of, fetch, Filling, HasForm, HasLimit, header, header_of, Heading, Image, image_of, is_limit, is_mask, is_size, is_zero, IsAddress, IsArea, IsByte, IsDeck, IsExtent, Item, items, LAST_CYLINDER, last_of, leb-true, length, length-append, limit, limit_line, List, Listing, lit<, ltb, ltb-false, map, map-append, mask, Masked, Named, nat_le, None, Ok, on_extent, on_put, OnDevice, One, Opening, Option, pad, put, puts, refl, replicate, Result, Some, stands, start, Started, State, step, storage, STORAGE_LIMIT, store, subst, suc, sym, true, Two, VersionNumber, Whole, zero, ℕ, ◌%◌, ◌&&◌, ◌++◌, ◌+◌, ◌-◌, ◌/◌, ◌<◌, ◌==◌, ◌∙◌, ◌∷◌, ◌≡◌, ◌≤◌}
+use Rattle.chan_deck.proofs.Names.{[], after_item, all_append, AllByRecursion, and_parts, ap, append-nil, append_assoc, Area, arith, Cause, cond_both, Device, device, end, eqb-true, extent, extent_of, fetch, Filling, HasForm, HasLimit, header, header_of, Heading, DeckValue, value_of, is_limit, is_mask, is_size, is_zero, IsAddress, IsArea, IsByte, IsDeck, IsExtent, Item, items, LAST_CYLINDER, last_of, leb-true, length, length-append, limit, limit_line, List, Listing, lit<, ltb, ltb-false, map, map-append, mask, Masked, Named, nat_le, None, Ok, on_extent, on_put, OnDevice, One, Opening, Option, pad, put, puts, refl, replicate, Result, Some, stands, start, Started, State, step, storage, STORAGE_LIMIT, store, subst, suc, sym, true, Two, VersionNumber, Whole, zero, ℕ, ◌%◌, ◌&&◌, ◌++◌, ◌+◌, ◌-◌, ◌/◌, ◌<◌, ◌==◌, ◌∙◌, ◌∷◌, ◌≡◌, ◌≤◌}
 use Rattle.std.proofs.lemmas.Result.{IfOk-at_ok}
 use Rattle.std.specs.Result.{IfOk}
 use Rattle.chan_deck.proofs.PutLemmas.{length_pad, puts-padded, puts-put}
@@ -77,7 +77,7 @@ pub data Ends : State → Option Item → Type 0 where
   at_storage : (h : Heading) (es : List (ℕ × ℕ)) (fs ss : List Area) (n : ℕ) → Ends (Filling h es fs ss n []) (Some (storage n))
   at_put : (h : Heading) (es : List (ℕ × ℕ)) (fs ss : List Area) (n : ℕ) (bytes : List ℕ) (a : ℕ) (word : List ℕ) → a + 8 ≡ length bytes
       → Ends (Filling h es fs ss n bytes) (Some (put a word))
-  at_end : (d : Image) → Ends (Whole d) (Some end)
+  at_end : (d : DeckValue) → Ends (Whole d) (Some end)
 
 -- what holds where reading stands
 pub record IsState (s : State) : Type 0 where
@@ -220,8 +220,8 @@ put_more h es fs ss n bytes a word is form =
 -- the deck that a filled state would be
 pub filled_is_deck : (h : Heading) (es : List (ℕ × ℕ)) (fs ss : List Area) (n : ℕ) (bytes : List ℕ)
     → IsRight (Filling h es fs ss n bytes)
-    → IsDeck (image_of h es fs ss (pad bytes n))
-    × (items (image_of h es fs ss (pad bytes n)) ≡ said (Filling h es fs ss n bytes) ++ end ∷ [])
+    → IsDeck (value_of h es fs ss (pad bytes n))
+    × (items (value_of h es fs ss (pad bytes n)) ≡ said (Filling h es fs ss n bytes) ++ end ∷ [])
 filled_is_deck h es fs ss n bytes is =
     let parts = size_parts n is.1.size in
     let len = length_pad bytes n is.1.within in
@@ -262,7 +262,7 @@ judged_more (Listing h (e ∷ es) fs ss) (storage n) is form f = storage_more h 
 judged_more (Filling h es fs ss n bytes) (put a word) is form f = put_more h es fs ss n bytes a word is form
 judged_more (Filling h es fs ss n bytes) end is form f =
     let whole = filled_is_deck h es fs ss n bytes is in
-    (whole.0, at_end (image_of h es fs ss (pad bytes n)), whole.1)
+    (whole.0, at_end (value_of h es fs ss (pad bytes n)), whole.1)
 judged_more s i is form f = absurd cc
 
 -- a step that goes on leads to a state, and says one line more

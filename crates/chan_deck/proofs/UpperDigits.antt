@@ -3,7 +3,7 @@ use Rattle.chan_deck.proofs.Names.{[], AllByRecursion, and_parts, ap, arith, Boo
 use Rattle.std.specs.Prelude.{is_some}
 use Rattle.hex.proofs.HexLemmas.{length-encode_with}
 use Rattle.chan_deck.specs.Digits.{IsValue}
-use Rattle.chan_deck.specs.declared.digits.TheConstants.{VALUES}
+use Rattle.chan_deck.specs.declared.numbers.TheConstants.{VALUES}
 
 -- ---- tests of the table of digits
 

@@ -1,5 +1,5 @@
 -- What is written, line by line.
-use Rattle.chan_deck.proofs.Names.{[], ap, append-nil, append_assoc, Area, area_digits, arith, Bool, codes, cond, device, drop, end, extent_of, false, fetch, flat_map, header, header_of, Image, in_six_digits, is_zero, Item, keep_line, length, length-append, length-drop, length-replicate, limit_line, line, List, map, map-append, mask, put, puts, refl, replicate, spelling, start, storage, store, suc, sym, take, text, true, ℕ, ◌%◌, ◌*◌, ◌++◌, ◌+◌, ◌/◌, ◌<◌, ◌∙◌, ◌∷◌, ◌≡◌, ◌≤◌}
+use Rattle.chan_deck.proofs.Names.{[], ap, append-nil, append_assoc, Area, area_digits, arith, Bool, codes, cond, device, drop, end, extent_of, false, fetch, flat_map, header, header_of, DeckValue, in_six_digits, is_zero, Item, keep_line, length, length-append, length-drop, length-replicate, limit_line, line, List, map, map-append, mask, put, puts, refl, replicate, spelling, start, storage, store, suc, sym, take, text, true, ℕ, ◌%◌, ◌*◌, ◌++◌, ◌+◌, ◌/◌, ◌<◌, ◌∙◌, ◌∷◌, ◌≡◌, ◌≤◌}
 use Rattle.chan_needs.specs.Listed.{Listed}
 use Rattle.chan_deck.specs.Needs.{granting, needs_text}
 use Rattle.chan_deck.proofs.FrontLemmas.{text-append}
@@ -61,7 +61,7 @@ each_text f [] = refl
 each_text f (x ∷ xs) = ap (λ t. (line (f x) ++ 10 ∷ []) ++ t) (each_text f xs)
 
 -- the text of a deck, part by part
-pub spelling_parts : (d : Image)
+pub spelling_parts : (d : DeckValue)
     → ((((text (map line (header (header_of d.version) ∷ device d.device ∷ mask d.mask
     ∷ start d.start ∷ limit_line d.version)) ++ text (map line (map extent_of d.extents)))
     ++ text (map line (map fetch d.fetch))) ++ text (map line (map store d.store)))

@@ -1,11 +1,11 @@
 pub mod Digits
 pub mod Item
-pub mod Image
+pub mod DeckValue
 pub mod Refused
 pub mod Reading
-pub mod DeckImage
-pub mod PreambleImage
-pub mod PartsImage
+pub mod DeckInside
+pub mod PreambleValue
+pub mod PartsValue
 pub mod SameDecks
 pub mod VerdictLine
 pub mod Listing

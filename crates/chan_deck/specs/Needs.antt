@@ -4,7 +4,7 @@ use Rattle.std.specs.Prelude.{ℕ, ◌==◌, List, [], ◌∷◌, ◌++◌, code
 use Rattle.std.specs.List.{flat_map}
 use Rattle.ccw_core.specs.declared.areas.Area.{Area}
 use Rattle.chan_needs.specs.Listed.{Listed}
-use Rattle.chan_deck.specs.Image.{extent_of}
+use Rattle.chan_deck.specs.DeckValue.{extent_of}
 use Rattle.chan_deck.specs.Item.{Item, area_digits, fetch, line, mask, store, text}
 use Rattle.ccw_core.specs.declared.ccw.TheConstants.{STORAGE_LIMIT}
 

@@ -8,7 +8,7 @@ use Rattle.ckd_core.specs.declared.device.Device.{Device}
 use Rattle.ckd_core.specs.Mask.{is_mask}
 use Rattle.chan_deck.specs.Item.{Item, header, device, mask, start, limit, extent, fetch, store}
 use Rattle.chan_deck.specs.Item.{storage, put, end, line, HasForm, said_by}
-use Rattle.chan_deck.specs.Image.{Image, is_zero}
+use Rattle.chan_deck.specs.DeckValue.{DeckValue, is_zero}
 use Rattle.chan_deck.specs.Refused.{split, is_size, is_limit, IsRefused}
 use Rattle.chan_deck.specs.declared.version.VersionNumber.{VersionNumber}
 use Rattle.chan_deck.specs.declared.version.VersionNumber.TheVariants as numbers
@@ -26,8 +26,8 @@ use Rattle.chan_deck.specs.declared.lines.Cursor.{Cursor}
 use Rattle.chan_deck.specs.declared.lists.Lists.{Lists}
 use Rattle.chan_deck.specs.declared.lists.ListLine.{ListLine}
 use Rattle.chan_deck.specs.declared.lists.ListLine.TheVariants.{Taken, Storage, Refused}
-use Rattle.chan_deck.specs.declared.error.DeckError.{DeckError}
-use Rattle.chan_deck.specs.declared.error.DeckError.TheVariants as errors
+use Rattle.chan_deck.specs.declared.deck_error.DeckError.{DeckError}
+use Rattle.chan_deck.specs.declared.deck_error.DeckError.TheVariants as errors
 use Rattle.ckd_core.specs.declared.device.TheConstants.{LAST_CYLINDER}
 
 -- what the lines so far said; in Started a limit has to come, and in Filling storage is known as
@@ -40,15 +40,15 @@ pub data State : Type 0 where
   Started : Device → ℕ → ℕ → State
   Listing : Heading → List (ℕ × ℕ) → List Area → List Area → State
   Filling : Heading → List (ℕ × ℕ) → List Area → List Area → ℕ → List ℕ → State
-  Whole : Image → State
+  Whole : DeckValue → State
 
 -- some bytes, and zeros up to a length
 abbrev pub pad : List ℕ → ℕ → List ℕ
 pad bytes n = bytes ++ replicate (n - length bytes) 0
 
 -- the image that the lines before the lists, the lists and the bytes of storage make
-abbrev pub image_of : Heading → List (ℕ × ℕ) → List Area → List Area → List ℕ → Image
-image_of h es fs ss bytes =
+abbrev pub value_of : Heading → List (ℕ × ℕ) → List Area → List Area → List ℕ → DeckValue
+value_of h es fs ss bytes =
     record {
       version = h.version;
       device = h.device;
@@ -132,7 +132,7 @@ after_item (Listing h es fs ss) (fetch a) = Ok (Listing h es (fs ++ a ∷ []) ss
 after_item (Listing h es fs ss) (store a) = Ok (Listing h es fs (ss ++ a ∷ []))
 after_item (Listing h es fs ss) (storage n) = on_storage h es fs ss n
 after_item (Filling h es fs ss n bytes) (put a word) = on_put h es fs ss n bytes a word
-after_item (Filling h es fs ss n bytes) end = Ok (Whole (image_of h es fs ss (pad bytes n)))
+after_item (Filling h es fs ss n bytes) end = Ok (Whole (value_of h es fs ss (pad bytes n)))
 after_item s _ = Err (no_form s)
 
 -- what a line does to what the lines before it said

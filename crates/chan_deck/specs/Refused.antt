@@ -6,7 +6,7 @@ use Rattle.std.specs.List.{AllByRecursion}
 use Rattle.ckd_core.specs.Mask.{is_mask}
 use Rattle.chan_deck.specs.Item.{Item, header, device, mask, start, limit, extent, fetch, store}
 use Rattle.chan_deck.specs.Item.{storage, put, end, line, text, HasForm, LineSays}
-use Rattle.chan_deck.specs.Image.{Image, Spells, is_zero}
+use Rattle.chan_deck.specs.DeckValue.{DeckValue, Spells, is_zero}
 use Rattle.chan_deck.specs.declared.version.VersionNumber.{VersionNumber}
 use Rattle.chan_deck.specs.declared.version.VersionNumber.TheVariants as numbers
 use Rattle.chan_deck.specs.declared.cause.Cause.{Cause}
@@ -37,7 +37,7 @@ first_lines n t = text (take n (lines t))
 
 -- some deck's text begins so
 abbrev pub BeginsSomeDeck : List ℕ → Type 0
-BeginsSomeDeck front = (d : Image) × (rest : List ℕ) × Spells (front ++ rest) d
+BeginsSomeDeck front = (d : DeckValue) × (rest : List ℕ) × Spells (front ++ rest) d
 
 -- n is the least number of whole lines with which no deck's text begins; if there is none, one more
 -- than there are lines
@@ -184,7 +184,7 @@ AreSaid n t before = AllByRecursion HasForm before × (map line before ≡ take 
 
 -- the text spells no deck; it is refused at line n, for this cause
 pub record IsRefused (t : List ℕ) (n : ℕ) (cause : Cause) : Type 0 where
-  pub none : (d : Image) → Spells t d → ⊥
+  pub none : (d : DeckValue) → Spells t d → ⊥
   pub at_line : IsRefusedAt t n
   pub for_cause :
       (before : List Item) × AreSaid (n - 1) t before
@@ -192,4 +192,5 @@ pub record IsRefused (t : List ℕ) (n : ℕ) (cause : Cause) : Type 0 where
 
 -- the text spells a deck, or it is refused at some line for some cause
 abbrev pub IsDeckOrRefused : List ℕ → Type 0
-IsDeckOrRefused t = ((d : Image) × Spells t d) ⊎ ((n : ℕ) × (cause : Cause) × IsRefused t n cause)
+IsDeckOrRefused t =
+    ((d : DeckValue) × Spells t d) ⊎ ((n : ℕ) × (cause : Cause) × IsRefused t n cause)

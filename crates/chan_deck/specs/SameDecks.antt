@@ -7,7 +7,7 @@ use Rattle.ccw_core.specs.declared.areas.Area.{Area}
 use Rattle.ckd_core.specs.Extents.{same_extents, same_extents-IsEquivalence}
 use Rattle.ckd_core.specs.declared.device.Device.{Device}
 use Rattle.ckd_core.specs.declared.device.Device.TheVariants.{D2311, D2314}
-use Rattle.chan_deck.specs.Image.{Image, version_number, limit_of}
+use Rattle.chan_deck.specs.DeckValue.{DeckValue, version_number, limit_of}
 use Rattle.chan_deck.specs.declared.version.Version.{Version}
 
 -- the same number and limit
@@ -23,7 +23,7 @@ abbrev pub same_areas : List Area → List Area → Bool
 same_areas = pointwise (eq_of_both (on (λ a. a.start) nat_eq) (on (λ a. a.len) nat_eq))
 
 -- the same version with its limit, device, mask, start, extents, areas and storage
-abbrev pub same_decks : Image → Image → Bool
+abbrev pub same_decks : DeckValue → DeckValue → Bool
 same_decks =
     eq_of_both (on (λ d. d.version) same_versions)
     (eq_of_both (on (λ d. model_of d.device) nat_eq)
@@ -47,14 +47,14 @@ same_areas-IsEquivalence =
 
 pub same_decks-IsEquivalence : IsEquivalence same_decks
 same_decks-IsEquivalence =
-    let version : Image → Version = λ d. d.version in
-    let device : Image → ℕ = λ d. model_of d.device in
-    let mask : Image → ℕ = λ d. d.mask in
-    let start : Image → ℕ = λ d. d.start in
-    let extents : Image → List (ℕ × ℕ) = λ d. d.extents in
-    let fetch : Image → List Area = λ d. d.fetch in
-    let store : Image → List Area = λ d. d.store in
-    let storage : Image → List ℕ = λ d. d.storage in
+    let version : DeckValue → Version = λ d. d.version in
+    let device : DeckValue → ℕ = λ d. model_of d.device in
+    let mask : DeckValue → ℕ = λ d. d.mask in
+    let start : DeckValue → ℕ = λ d. d.start in
+    let extents : DeckValue → List (ℕ × ℕ) = λ d. d.extents in
+    let fetch : DeckValue → List Area = λ d. d.fetch in
+    let store : DeckValue → List Area = λ d. d.store in
+    let storage : DeckValue → List ℕ = λ d. d.storage in
     and_equiv (on_equiv version same_versions-IsEquivalence)
     (and_equiv (on_equiv device nat_eq_equiv)
     (and_equiv (on_equiv mask nat_eq_equiv)

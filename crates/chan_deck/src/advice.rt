@@ -4,7 +4,7 @@ ghost use Rattle.chan_why.specs.Findings.{AreFindings};
 
 use crate::explanation::why_text;
 use crate::help::{help_text, unseen_note};
-use crate::notes::{absent_note, notes_on};
+use crate::note_lines::{absent_note, notes_on};
 use crate::wrong_image::image_faults;
 use ccw_core::Area;
 use chan_why::Findings;

@@ -1,7 +1,7 @@
 //! Decks.
 
 ghost use Rattle.std.specs.Prelude.{◌≡◌};
-ghost use Rattle.chan_deck.specs.Image.{limit_of, version_number};
+ghost use Rattle.chan_deck.specs.DeckValue.{limit_of, version_number};
 ghost use Rattle.chan_deck.specs.declared.version.Version.TheVariants.{Two};
 ghost use Rattle.chan_walk.specs.Job.{extents_of, fetch_of, storage_of, store_of};
 
@@ -11,7 +11,7 @@ use chan_walk::{Job, Limit};
 use ckd_core::{Device, Extents, FileMask};
 use std::marker::Model;
 
-/// A storage image with its job, as a deck spells them. `read_deck` makes one, and `upgrade`.
+/// Storage and a job, as a deck spells them. `read_deck` makes one, and `upgrade`.
 #[derive(Drop)]
 pub struct Deck {
     /// The version of its text; version 2 has the limit on places too.
@@ -32,15 +32,15 @@ pub struct Deck {
 }
 
 impl Model for Deck {
-    ghost use Rattle.chan_deck.specs.Image.{Image, IsDeck};
+    ghost use Rattle.chan_deck.specs.DeckValue.{DeckValue, IsDeck};
 
-    ghost Value = { Image };
+    ghost Value = { DeckValue };
 
-    ghost use Rattle.chan_deck.specs.DeckImage.{image_of_deck};
+    ghost use Rattle.chan_deck.specs.DeckInside.{value_of_deck};
 
-    ghost view = { image_of_deck };
+    ghost view = { value_of_deck };
 
-    ghost invariant = { λ d. IsDeck (image_of_deck d) };
+    ghost invariant = { λ d. IsDeck (value_of_deck d) };
 }
 
 impl Deck {

@@ -1,6 +1,6 @@
 //! A line of a dump of storage as text: an address, and the bytes from there on.
 
-use crate::digits::value_of;
+use crate::numbers::value_of;
 use ccw_core::STORAGE_LIMIT;
 use std::alloc::AllocError;
 use std::str;

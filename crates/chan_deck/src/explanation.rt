@@ -8,7 +8,7 @@ ghost use Rattle.chan_deck.specs.Explanation.{IsWitnessText};
 ghost use Rattle.chan_walk.specs.Offence.{first_verdict};
 ghost use Rattle.chan_why.specs.Findings.{AreFindings};
 
-use crate::evidence::push_evidence;
+use crate::because::push_evidence;
 use crate::listing::{push_words, standing_at};
 use crate::verdict_line::verdict_text;
 use ccw_core::push_digits;

@@ -7,11 +7,11 @@ ghost use Rattle.chan_deck.specs.VerdictLine.{verdict_words};
 ghost use Rattle.chan_walk.specs.Offence.{first_verdict};
 ghost use Rattle.chan_why.specs.Findings.{AreFindings};
 
+use crate::because::push_evidence;
 use crate::deed::{Shown, push_amount, push_reported};
-use crate::evidence::push_evidence;
 use crate::explanation::push_setting;
 use crate::listing::{name_of, transfer_word, way_word};
-use crate::notes::notes_on;
+use crate::note_lines::notes_on;
 use crate::picture_layout::{
     Arrow, Layout, MOST_ROWS, Row, Scene, arrow_to, first_row, indices_at, is_left_out_of,
     layout_of, row_at, shown_of,

@@ -6,7 +6,7 @@ ghost use Rattle.chan_deck.specs.Reading.{LeadsOrFails, Listing, Opening, begun_
 ghost use Rattle.chan_deck.specs.Reading.{after_line};
 
 use crate::cause::Cause;
-use crate::error::DeckError;
+use crate::deck_error::DeckError;
 use crate::item::Item;
 use crate::lines::Cursor;
 use crate::version::{Version, VersionNumber};

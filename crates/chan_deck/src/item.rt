@@ -11,7 +11,7 @@ ghost use Rattle.chan_deck.specs.declared.version.VersionNumber.{VersionNumber};
 use crate::deck_digits::{
     address_digits, area_digits, cylinder_digits, limit_digits, size_digits, word_digits,
 };
-use crate::digits::{address_of, byte_of, cylinder_of, places_of, size_of, word_of};
+use crate::numbers::{address_of, byte_of, cylinder_of, places_of, size_of, word_of};
 use crate::version::VersionNumber;
 use ccw_core::{Area, digits_of};
 use ckd_core::Device;

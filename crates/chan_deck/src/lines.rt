@@ -6,7 +6,7 @@ ghost use Rattle.std.specs.List.{list_any};
 ghost use Rattle.chan_deck.specs.Refused.{split};
 
 use crate::cause::Cause;
-use crate::error::DeckError::{self, At};
+use crate::deck_error::DeckError::{self, At};
 use crate::item::{Item, PUT_LINE};
 
 /// The length of a line that lends an area.
@@ -76,11 +76,11 @@ pub(crate) struct Cursor<'a> {
 
 impl<'a> Cursor<'a> {
     ghost use Rattle.std.specs.Prelude.{ℕ, List, MatchResult};
-    ghost use Rattle.chan_deck.specs.Image.{Image, Spells};
+    ghost use Rattle.chan_deck.specs.DeckValue.{DeckValue, Spells};
     ghost use Rattle.chan_deck.specs.Reading.{IsNextLine, IsDeckError, HasReadTo, Opening};
     ghost use Rattle.chan_deck.specs.Reading.{IsLessLeft};
     ghost use Rattle.chan_deck.specs.Reading.{Whole, refusal};
-    ghost use Rattle.chan_deck.specs.declared.error.DeckError.TheVariants as errors;
+    ghost use Rattle.chan_deck.specs.declared.deck_error.DeckError.TheVariants as errors;
 
     /// A cursor at the start of a text.
     pub(crate) fn new(text: &'a [u8]) -> Cursor<'a>
@@ -133,7 +133,7 @@ impl<'a> Cursor<'a> {
 
     /// Nothing follows the line that was read last, which ends a deck.
     pub(crate) fn end(&self) -> Result<(), DeckError>
-        ensures { (t : List ℕ) (d : Image) → HasReadTo t (Whole d) self.now
+        ensures { (t : List ℕ) (d : DeckValue) → HasReadTo t (Whole d) self.now
             → MatchResult result (λ done. Spells t d) (IsDeckError t) }
     {
         if self.rest.is_empty() {

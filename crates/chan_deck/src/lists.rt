@@ -7,7 +7,7 @@ ghost use Rattle.chan_deck.specs.Reading.{after_line, with_lists};
 ghost use Rattle.chan_deck.specs.declared.heading.Heading.{Heading};
 
 use crate::cause::Cause;
-use crate::error::DeckError;
+use crate::deck_error::DeckError;
 use crate::item::Item;
 use crate::lines::Cursor;
 use ccw_core::{Area, STORAGE_LIMIT};

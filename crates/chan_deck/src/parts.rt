@@ -2,13 +2,13 @@
 
 ghost use Rattle.std.specs.Prelude.{◌≡◌, ◌+◌, ◌*◌, ◌/◌, ◌≤◌, ◌^◌, ◌++◌, length, IfOk, OnOk};
 ghost use Rattle.std.specs.List.{AllByRecursion};
-ghost use Rattle.chan_deck.specs.Image.{Spells};
+ghost use Rattle.chan_deck.specs.DeckValue.{Spells};
 ghost use Rattle.chan_deck.specs.Item.{IsByte};
-ghost use Rattle.chan_deck.specs.PartsImage.{HasShortAddresses, image_of_parts, storage_with};
-ghost use Rattle.chan_deck.specs.PartsImage.{version_with, zeros};
+ghost use Rattle.chan_deck.specs.PartsValue.{HasShortAddresses, value_of_parts, storage_with};
+ghost use Rattle.chan_deck.specs.PartsValue.{version_with, zeros};
 ghost use Rattle.ccw_core.specs.declared.ccw.TheConstants.{STORAGE_LIMIT};
 
-use crate::storage::write_at;
+use crate::storage_lines::write_at;
 use crate::version::Version;
 use crate::writing::{Preamble, text_of};
 use ccw_core::Area;
@@ -84,7 +84,7 @@ fn version_of(limit: Option<Limit>) -> Version
 pub fn parts_text(alloc: Global, parts: &Parts<'_>) -> Result<Vec<u8>, AllocError>
     requires size { parts.now.at + length parts.now.image.now ≤ STORAGE_LIMIT }
     requires addresses { HasShortAddresses parts.now }
-    ensures { IfOk result (λ text. Spells text.items (image_of_parts parts.now)) }
+    ensures { IfOk result (λ text. Spells text.items (value_of_parts parts.now)) }
 {
     let preamble = Preamble {
         version: version_of(parts.limit),

@@ -1,10 +1,10 @@
 //! The listing of a range of storage: each doubleword as a CCW with its own fault, whether or not a
 //! run comes there. It is for people, and tests hold it.
 
-use crate::evidence::push_evidence;
+use crate::because::push_evidence;
 use crate::explanation::push_setting;
 use crate::listing::push_words;
-use crate::notes::look_without_areas;
+use crate::note_lines::look_without_areas;
 use crate::verdict_line::push_verdict;
 use ccw_core::Area;
 use chan_walk::{Entry, Evidence, Job, Lent, Look, Place, Verdict, look_among, setting_at};

@@ -1,23 +1,23 @@
 //! Reading a deck.
 
 ghost use Rattle.std.specs.Prelude.{◌≡◌, ◌⊎◌, ℕ, IfErr, IfOk, MatchResult};
-ghost use Rattle.chan_deck.specs.Image.{Image, Spells};
-ghost use Rattle.chan_deck.specs.Reading.{IsDeckError, image_of};
+ghost use Rattle.chan_deck.specs.DeckValue.{DeckValue, Spells};
+ghost use Rattle.chan_deck.specs.Reading.{IsDeckError, value_of};
 ghost use Rattle.chan_deck.specs.Refused.{IsRefused};
 ghost use Rattle.chan_deck.specs.declared.cause.Cause.{Cause};
 
 use crate::deck::Deck;
-use crate::error::DeckError;
+use crate::deck_error::DeckError;
 use crate::heading::{Heading, read_heading};
 use crate::lines::Cursor;
 use crate::lists::{Lists, read_lists};
-use crate::storage::fill;
+use crate::storage_lines::fill;
 use ckd_core::Extents;
 use std::alloc::Global;
 
 /// The heading, the lists and the storage that a text says.
 fn read_parts(alloc: Global, text: &[u8]) -> Result<(Heading, Lists, Vec<u8>), DeckError>
-    ensures { MatchResult result (λ p. Spells text.now (image_of p.0 p.1.extents.items
+    ensures { MatchResult result (λ p. Spells text.now (value_of p.0 p.1.extents.items
         p.1.fetch.items p.1.store.items p.2.items)) (IsDeckError text.now) }
 {
     let mut cursor = Cursor::new(text);
@@ -39,7 +39,7 @@ pub fn read_deck(alloc: Global, text: &[u8]) -> Result<Deck, DeckError>
 
     // A text that spells a deck gives that deck, memory aside; one that spells none gives its
     // refusal.
-    ensures accepted { (d : Image) → Spells text.now d
+    ensures accepted { (d : DeckValue) → Spells text.now d
         → MatchResult result (λ deck. deck ≡ d) (λ e. e ≡ DeckError.Memory) }
     ensures named { (line : ℕ) (cause : Cause) → IsRefused text.now line cause
         → MatchResult result (λ deck. ⊥)

@@ -1,7 +1,7 @@
 //! The versions of a deck.
 
 ghost use Rattle.std.specs.Prelude.{◌≡◌};
-ghost use Rattle.chan_deck.specs.Image.{header_of, limit_of, version_number};
+ghost use Rattle.chan_deck.specs.DeckValue.{header_of, limit_of, version_number};
 
 use chan_walk::Limit;
 

@@ -8,9 +8,9 @@ ghost use Rattle.ckd_core.specs.Extents.{AreExtents, IsExtent};
 ghost use Rattle.ckd_core.specs.Mask.{is_mask};
 ghost use Rattle.chan_deck.specs.Item.{IsByte, device, header, line, mask, put, start, text};
 ghost use Rattle.chan_deck.specs.Item as item;
-ghost use Rattle.chan_deck.specs.Image.{HasLimit, Spells, extent_of, header_of, is_zero as zeros};
-ghost use Rattle.chan_deck.specs.Image.{limit_line, puts, spelling};
-ghost use Rattle.chan_deck.specs.PreambleImage.{image_of_preamble};
+ghost use Rattle.chan_deck.specs.DeckValue.{HasLimit, Spells, extent_of, header_of, limit_line};
+ghost use Rattle.chan_deck.specs.DeckValue.{is_zero as zeros, puts, spelling};
+ghost use Rattle.chan_deck.specs.PreambleValue.{value_of_preamble};
 ghost use Rattle.ccw_core.specs.declared.ccw.TheConstants.{STORAGE_LIMIT};
 
 use crate::deck::Deck;
@@ -158,7 +158,7 @@ pub(crate) fn text_of(
     requires whole { at % 8 ≡ 0 }
     requires size { at + length bytes.now ≤ STORAGE_LIMIT }
     ensures text { IfOk result (λ text. text.items
-        ≡ spelling (image_of_preamble preamble.now (replicate at 0 ++ bytes.now))) }
+        ≡ spelling (value_of_preamble preamble.now (replicate at 0 ++ bytes.now))) }
     ensures limit { OnOk result (HasLimit preamble.now.version) }
     ensures mask { OnOk result (IsByte preamble.now.mask × (is_mask preamble.now.mask ≡ true)) }
     ensures extents { OnOk result (AreExtents preamble.now.extents.now) }

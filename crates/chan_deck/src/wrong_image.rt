@@ -1,6 +1,6 @@
 //! What may be wrong with an image if no job will do for its program. Tests hold the texts.
 
-use crate::notes::storage_note;
+use crate::note_lines::storage_note;
 use ccw_core::{Area, STORAGE_LIMIT};
 use chan_walk::{Evidence, Job, Reason, Verdict, fault_at, first_place};
 use chan_why::{Findings, Witness};

@@ -55,7 +55,7 @@ lasting_writes = record {
   stands = λ f area store keep. record { stores = one_area _ area store; keeps = no_area _ keep };
   begins = λ area v fs lists none i p some noted. let n = lists i p noted in at_number (KeepsNone area) fs n.0 p none n.1;
   stays = λ f area v w write. stays_beside (KeepsNone area) f v w (λ p h b k. h.other_spares b (write.stores b k.1, k.0));
-  may_write = λ f area v fs t write spared lists only written.
+  check_write = λ f area v fs t write spared lists only written.
       let none : (g : Remembered) → Has fs g → KeepsNone area g = λ g h. spares f area v g write spared (only g h) in
       record { area = area; in_flight = fs; lists = lists; answer = to_all (KeepsNone area) fs none; written = written };
 }

@@ -48,5 +48,5 @@ can_be_supervised = record {
     refl,
   );
   written = λ area s t len same. record { same_length = len; same = same };
-  may_write = λ v t area fs lists answer written. record { area = area; in_flight = fs; lists = lists; answer = answer; written = written };
+  check_write = λ v t area fs lists answer written. record { area = area; in_flight = fs; lists = lists; answer = answer; written = written };
 }

@@ -1,5 +1,5 @@
--- The supervisor's law: if programs start only after a yes of `may_start`, and others write only if
--- `may_write` names no program, then all programs in flight are well.
+-- The supervisor's law: if programs start only after a yes of `check_start`, and others write only
+-- if `check_write` names no program, then all programs in flight are well.
 use Rattle.std.specs.Prelude.{◌≡◌, ℕ, List, [], ◌∷◌, length, map, Option, Some, None, IsSome}
 use Rattle.std.specs.Prelude.{◌⊎◌, false, true}
 use Rattle.std.specs.List.{All, AllByRecursion}
@@ -30,7 +30,7 @@ abbrev pub ListsRemembered : (ℕ → Option Remembered) → List Remembered →
 ListsRemembered ps fs = (i : ℕ) (p : Remembered) → ps i ≡ Some p → (n : ℕ) × IsInFlightAt fs n p
 
 -- a program that was asked about is about to start under number i, where nothing is in flight, and
--- `may_start` answers yes
+-- `check_start` answers yes
 pub record IsAllowed (v : Supervision) (i : ℕ) : Type 0 where
   pub asked : Job
   pub program : Remembered
@@ -62,8 +62,8 @@ abbrev pub ProgramWaitsAt : Supervision → Supervision → ℕ → Type 0
 ProgramWaitsAt v w k = ProgramWaits (v.situation.at k) (w.situation.at k)
     × (w.programs k ≡ v.programs k)
 
--- others are about to write, so that storage becomes t: only into an area of which, as `may_write`
--- says, no program keeps a byte
+-- others are about to write, so that storage becomes t: only into an area of which, as
+-- `check_write` says, no program keeps a byte
 pub record MayWrite (v : Supervision) (t : List ℕ) : Type 0 where
   pub area : Area
   pub in_flight : List Remembered
@@ -139,7 +139,7 @@ pub record CanBeSupervised : Type 0 where
   pub written :
       (area : Area) (s t : List ℕ) → length t ≡ length s
       → ((b : ℕ) → (IsByteOf area b → ⊥) → byte t b ≡ byte s b) → IsWritten area s t
-  pub may_write :
+  pub check_write :
       (v : Supervision) (t : List ℕ) (area : Area) (fs : List Remembered)
       → ListsRemembered v.programs fs → IsKeeperOf fs area None
       → IsWritten area v.situation.storage t → MayWrite v t
@@ -176,7 +176,7 @@ IsSparedBy area v =
     → KeepsNone area p
 
 -- a row that stores over the area alone, and keeps nothing, stands for such a write, and it may
--- begin when `may_write` names no program; while each question is about a list with the row, no
+-- begin when `check_write` names no program; while each question is about a list with the row, no
 -- program that keeps a byte of the area starts; so at each moment others may write into the area,
 -- by a table of the programs in flight and the write
 pub record LastingWrites : Type 0 where
@@ -189,7 +189,7 @@ pub record LastingWrites : Type 0 where
   pub stays :
       (f : Remembered) (area : Area) (v w : Supervision) → IsLastingWrite area f
       → IsSparedBy area v → GoesOnBeside f v w → IsSparedBy area w
-  pub may_write :
+  pub check_write :
       (f : Remembered) (area : Area) (v : Supervision) (fs : List Remembered) (t : List ℕ)
       → IsLastingWrite area f → IsSparedBy area v → ListsRemembered v.programs fs
       → ((g : Remembered) → Has fs g

@@ -161,7 +161,7 @@ pub(crate) fn supervised_goes_on()
 {}
 
 /// A row that only stores over an area stands for a write that lasts, and it may begin when
-/// `may_write` names no program; while each question is about a table with it, no program that
+/// `check_write` names no program; while each question is about a table with it, no program that
 /// keeps a byte of the area starts, so others may write there at each moment.
 #[tactic(auto, using(crate::proofs::Lasting::lasting_writes))]
 pub(crate) fn lasting_writes()
@@ -198,7 +198,7 @@ pub(crate) fn held_stays_true()
     ensures { HeldStaysTrue }
 {}
 
-/// The answer of `may_start` is the same over each storage of the same length that is equal where
+/// The answer of `check_start` is the same over each storage of the same length that is equal where
 /// the program keeps bytes: a yes survives each write to other bytes.
 #[tactic(auto, using(crate::proofs::Staying::answer_stays))]
 pub(crate) fn answer_stays()

@@ -20,5 +20,5 @@ mod start;
 pub use crate::conflict::Conflict;
 pub use crate::layout::{Extent, NeedLists, Remembered, or_empty, pairs_of};
 pub use crate::needs::{Needs, needs_from};
-pub use crate::remembered::{copy_kept, kept_len, kept_outside, may_write};
-pub use crate::start::{Start, StartRefusal, may_start};
+pub use crate::remembered::{check_write, copy_kept, kept_len, kept_outside};
+pub use crate::start::{Start, StartRefusal, check_start};

@@ -21,7 +21,7 @@ use std::alloc::{AllocError, Global};
 /// program that keeps one of its bytes, and the least byte that this program keeps there.
 ///
 /// The call takes one pass over the kept areas, and no memory.
-pub fn may_write(in_flight: &[Remembered], area: Area) -> Option<(usize, u32)>
+pub fn check_write(in_flight: &[Remembered], area: Area) -> Option<(usize, u32)>
     ensures keeper { IsKeeperOf in_flight.now area result }
 
     // If what is remembered of those in flight is true, the history goes on with what is written.

@@ -18,7 +18,7 @@ use chan_walk::Job;
 use ckd_core::{Device, FileMask};
 use std::alloc::{AllocError, Global};
 
-/// Why a program may not start. `may_start` looks for the variants in this order.
+/// Why a program may not start. `check_start` looks for the variants in this order.
 #[derive(Clone, Copy, PartialEq, Eq, Debug)]
 pub enum StartRefusal {
     /// The job doesn't start at the program's address.
@@ -75,7 +75,7 @@ pub enum Start {
 /// programs whose areas aren't merged cost the product of their numbers; `needs` gives merged
 /// areas. The call takes memory only for the lent areas: two copies of one of their two lists at a
 /// time. `Err` means that memory ran out.
-pub fn may_start(
+pub fn check_start(
     alloc: Global,
     job: &Job,
     program: &Remembered,

@@ -1,6 +1,6 @@
 -- The lines of programs that are found, one after another.
 use Rattle.std.proofs.Common.{◌≡◌, ◌∙◌, ◌<◌, ◌++◌, ◌∷◌, [], List, ap, arith, append_assoc, append-nil, length, refl, slice_index_or, subst, suc, sym, take, zero, ℕ}
-use Rattle.chan_deck.specs.PartsImage.{storage_with}
+use Rattle.chan_deck.specs.PartsValue.{storage_with}
 use Rattle.chan_find.specs.Programs.{AreStarts}
 use Rattle.chan_run.specs.Find.{AreLinesAt, AreStartsInImage, IsLineAt}
 use Rattle.chan_args.specs.declared.image_options.ImageOptions.{ImageOptions}

@@ -18,11 +18,11 @@ use Rattle.chan_walk.specs.Verdict.{IsVerdict}
 use Rattle.chan_walk.proofs.Theory.Faults.{clear_stands, yes_clear}
 use Rattle.ccw_core.specs.Storage.{is_inside, range_at}
 use Rattle.chan_deck.specs.Item.{IsAddress, IsArea}
-use Rattle.chan_deck.specs.PartsImage.{storage_with}
+use Rattle.chan_deck.specs.PartsValue.{storage_with}
 use Rattle.chan_areas.proofs.Merging.{lies_in-append, lies_in-cases, lies_in-first, lies_in-rest}
 use Rattle.chan_needs.proofs.Needing.{granted_yes, yes_grants}
 use Rattle.chan_walk.proofs.Algorithms.Opened.{to_open}
-use Rattle.chan_deck.specs.Image.{Image, limit_of}
+use Rattle.chan_deck.specs.DeckValue.{DeckValue, limit_of}
 use Rattle.chan_deck.proofs.PartLemmas.{storage_fits}
 use Rattle.chan_deck.specs.Needs.{halves, in_six_digits, six_digit_parts}
 use Rattle.chan_args.specs.declared.image_options.RequestedJob.TheVariants as jobs
@@ -163,16 +163,16 @@ least_is_yes j n needs short mask extents fetch store =
 -- ---- the deck
 
 -- so it is on the job of the deck, whose program is the one that the options find
-program_of : (o : ImageOptions) (image : List ℕ) (n : Listed) (d : Image) (j : Job) → d ≡ least_deck o image n
+program_of : (o : ImageOptions) (image : List ℕ) (n : Listed) (d : DeckValue) (j : Job) → d ≡ least_deck o image n
     → IsDeckJob d j → IsProgramIn o image j
 program_of o image n d j is of = record {
-  storage = of.storage ∙ ap (λ (x : Image). x.storage) is;
-  start = of.start ∙ ap (λ (x : Image). x.start) is;
-  device = of.device ∙ ap (λ (x : Image). x.device) is;
-  limit = of.limit ∙ ap (λ (x : Image). limit_of x.version) is;
+  storage = of.storage ∙ ap (λ (x : DeckValue). x.storage) is;
+  start = of.start ∙ ap (λ (x : DeckValue). x.start) is;
+  device = of.device ∙ ap (λ (x : DeckValue). x.device) is;
+  limit = of.limit ∙ ap (λ (x : DeckValue). limit_of x.version) is;
 }
 
-pub least_asked : (o : ImageOptions) (image : List ℕ) (n : Listed) (d : Image) → o.job ≡ jobs.Least
+pub least_asked : (o : ImageOptions) (image : List ℕ) (n : Listed) (d : DeckValue) → o.job ≡ jobs.Least
     → o.at + length image ≤ STORAGE_LIMIT → ((j : Job) → IsProgramIn o image j → AreNeeds j n)
     → d ≡ least_deck o image n → IsRequestedDeck o.job o image d
 least_asked o image n d least short needs is =
@@ -182,11 +182,11 @@ least_asked o image n d least short needs is =
     yes j of =
         let there = program_of o image n d j is of in
         least_is_yes j n (needs j there) (storage_fits o.at image (storage_of j) there.storage short)
-        (of.mask ∙ ap (λ (x : Image). x.mask) is) (of.extents ∙ ap (λ (x : Image). x.extents) is)
-        (of.fetch ∙ ap (λ (x : Image). x.fetch) is) (of.store ∙ ap (λ (x : Image). x.store) is)
+        (of.mask ∙ ap (λ (x : DeckValue). x.mask) is) (of.extents ∙ ap (λ (x : DeckValue). x.extents) is)
+        (of.fetch ∙ ap (λ (x : DeckValue). x.fetch) is) (of.store ∙ ap (λ (x : DeckValue). x.store) is)
 
 -- a deck with just what is needed
-pub grants_needs : (d : Image) (n : Listed) (extents : List (ℕ × ℕ)) (fetch store : List Area)
+pub grants_needs : (d : DeckValue) (n : Listed) (extents : List (ℕ × ℕ)) (fetch store : List Area)
     → extents ≡ extents_for n.extents → fetch ≡ in_six_digits n.fetch → store ≡ in_six_digits n.store
     → record d { mask = n.mask; extents = extents; fetch = fetch; store = store } ≡ granting_just d n
 grants_needs d n extents fetch store one two three = rw (one, two, three) refl

@@ -16,7 +16,7 @@ use Rattle.chan_walk.proofs.Algorithms.Counting.{few_among}
 use Rattle.chan_walk.proofs.Algorithms.Granted.{same_by_grants}
 use Rattle.chan_walk.proofs.Algorithms.OneVerdict.{one_verdict}
 use Rattle.chan_walk.proofs.Theory.Masks.{strict_as_itself}
-use Rattle.chan_deck.specs.Image.{Image}
+use Rattle.chan_deck.specs.DeckValue.{DeckValue}
 use Rattle.chan_deck.proofs.RefusalLemmas.{one_refusal, same_deck}
 use Rattle.chan_args.specs.declared.action.Action.{Action}
 use Rattle.chan_args.specs.declared.action.Action.TheVariants as actions
@@ -53,7 +53,7 @@ are_alike k l one mask right extents fetch store limit = record {
 }
 
 -- two jobs of one deck
-module _ (d : Image) (right : is_mask d.mask ≡ true) (j i : Job) (of : IsDeckJob d j) (too : IsDeckJob d i) where
+module _ (d : DeckValue) (right : is_mask d.mask ≡ true) (j i : Job) (of : IsDeckJob d j) (too : IsDeckJob d i) where
   one_program : AreOfOneProgram j i
   one_program = record { storage = of.storage ∙ sym too.storage; start = of.start ∙ sym too.start; device = of.device ∙ sym too.device }
 

@@ -4,7 +4,7 @@ use Rattle.std.specs.Prelude.{Option, Some, None, is_some, nat_eq}
 use Rattle.chan_deck.specs.Reading.{is_empty}
 use Rattle.std.specs.Io.KnownBytes.{Appends}
 use Rattle.ccw_core.specs.Written.{AppendsPrefix}
-use Rattle.chan_deck.specs.PartsImage.{storage_with}
+use Rattle.chan_deck.specs.PartsValue.{storage_with}
 use Rattle.chan_deck.specs.Shape.{HasPlaceCount}
 use Rattle.chan_deck.specs.VerdictLine.{program_line, unjudged_line}
 use Rattle.chan_walk.specs.declared.job.Job.{Job}
@@ -17,7 +17,7 @@ use Rattle.chan_run.specs.Image.{IsNoImage, IsProgramAt, IsWholeImage}
 use Rattle.chan_deck.specs.ImageNote.{deck_note, find_note}
 use Rattle.chan_run.specs.Output.{IsUnwritten}
 use Rattle.chan_run.specs.Response.{IsDelivered, IsResponseWithoutOutput}
-use Rattle.chan_run.specs.declared.find.TheConstants.{PLACES_JUDGED}
+use Rattle.chan_run.specs.declared.image_programs.TheConstants.{PLACES_JUDGED}
 use Rattle.chan_run.specs.declared.failure.Failure.{Failure}
 use Rattle.chan_run.specs.declared.response.Response.{Response}
 use Rattle.chan_run.specs.declared.failure.Failure.TheVariants as failures

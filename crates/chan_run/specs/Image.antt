@@ -1,12 +1,12 @@
 -- What is written of an image of storage and the options with which a deck is made of it.
 use Rattle.std.specs.Prelude.{ℕ, ◌+◌, ◌-◌, ◌<◌, ◌≤◌, ◌≡◌, ◌⊎◌, List, [], ◌∷◌, ◌++◌, length}
 use Rattle.std.specs.Prelude.{Option, Some, None, replicate, unwrap_or}
-use Rattle.chan_deck.specs.Image.{Image, Spells, limit_of}
+use Rattle.chan_deck.specs.DeckValue.{DeckValue, Spells, limit_of}
 use Rattle.ccw_core.specs.declared.areas.Area.{Area}
 use Rattle.chan_args.specs.declared.image_options.RequestedJob.{RequestedJob}
 use Rattle.chan_args.specs.declared.image_options.RequestedJob.TheVariants as jobs
 use Rattle.chan_deck.specs.Needs.{in_six_digits}
-use Rattle.chan_deck.specs.PartsImage.{storage_with, version_with}
+use Rattle.chan_deck.specs.PartsValue.{storage_with, version_with}
 use Rattle.chan_walk.specs.declared.job.Job.{Job}
 use Rattle.chan_walk.specs.declared.verdict.Verdict.TheVariants.{Yes, No}
 use Rattle.chan_walk.specs.Answers.{IsAnswer}
@@ -26,7 +26,7 @@ use Rattle.ckd_core.specs.Extents.{all_cylinders}
 use Rattle.ccw_core.specs.declared.ccw.TheConstants.{STORAGE_LIMIT}
 
 -- the deck that the options and an image of storage make
-abbrev pub deck_of : ImageOptions → List ℕ → Image
+abbrev pub deck_of : ImageOptions → List ℕ → DeckValue
 deck_of o image =
     record {
       version = version_with o.limit;
@@ -59,11 +59,11 @@ pub record HoldsOfOpenJob (o : ImageOptions) (image : List ℕ) (Holds : Job →
   pub holds : Holds opened
 
 -- the deck that the options and an image make, but for its job, which grants just what is needed
-abbrev pub least_deck : ImageOptions → List ℕ → Listed → Image
+abbrev pub least_deck : ImageOptions → List ℕ → Listed → DeckValue
 least_deck o image n = granting_just (deck_of o image) n
 
 -- so the deck is, and the verdict on its job is yes
-pub record IsLeastDeck (o : ImageOptions) (image : List ℕ) (d : Image) : Type 0 where
+pub record IsLeastDeck (o : ImageOptions) (image : List ℕ) (d : DeckValue) : Type 0 where
   pub needed : Listed
   pub needs : (j : Job) → IsProgramIn o image j → AreNeeds j needed
   pub is : d ≡ least_deck o image needed
@@ -75,7 +75,7 @@ areas_over storage = in_six_digits ((record { start = 0; len = length storage })
 
 -- the deck that the options and an image make, but for its job, which grants everything: no mask
 -- inhibits anything, the extents are all cylinders, and all of storage is lent
-abbrev pub open_deck : ImageOptions → List ℕ → Image
+abbrev pub open_deck : ImageOptions → List ℕ → DeckValue
 open_deck o image = record (deck_of o image) {
   mask = 0xC0;
   extents = all_cylinders;
@@ -84,7 +84,7 @@ open_deck o image = record (deck_of o image) {
 }
 
 -- the deck that is asked for: its job is what the options say, or the least, or the open one
-abbrev pub IsRequestedDeck : RequestedJob → ImageOptions → List ℕ → Image → Type 0
+abbrev pub IsRequestedDeck : RequestedJob → ImageOptions → List ℕ → DeckValue → Type 0
 IsRequestedDeck jobs.Named o image d = d ≡ deck_of o image
 IsRequestedDeck jobs.Least o image d = IsLeastDeck o image d
 IsRequestedDeck jobs.Open o image d = d ≡ open_deck o image
@@ -116,7 +116,7 @@ HasNoNeeds o image _ = ⊥
 
 -- the text is that of the deck that is asked for
 abbrev pub IsDeckText : ImageOptions → List ℕ → List ℕ → Type 0
-IsDeckText o image text = (d : Image) × IsRequestedDeck o.job o image d × Spells text d
+IsDeckText o image text = (d : DeckValue) × IsRequestedDeck o.job o image d × Spells text d
 
 -- why there is no such deck; it was the least job that was asked for, unless memory ran out
 abbrev pub IsNoDeck : ImageOptions → List ℕ → Outcome → Type 0

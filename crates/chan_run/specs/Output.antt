@@ -2,12 +2,12 @@
 use Rattle.std.specs.Prelude.{◌≡◌, ◌++◌, ◌∷◌, ◌==◌, ℕ, Bool, true, false, List, [], Option, None}
 use Rattle.std.specs.Prelude.{Some, if◌then◌else◌}
 use Rattle.std.specs.Io.KnownBytes.{Appends}
-use Rattle.chan_deck.specs.Image.{Image, Spells, limit_of}
+use Rattle.chan_deck.specs.DeckValue.{DeckValue, Spells, limit_of}
 use Rattle.chan_deck.specs.Explanation.{IsExplained}
 use Rattle.chan_deck.specs.Graph.{IsPictureOf}
 use Rattle.chan_deck.specs.Listing.{listing}
 use Rattle.chan_deck.specs.Needs.{in_six_digits, needs_text}
-use Rattle.chan_deck.specs.PartsImage.{storage_with, version_with}
+use Rattle.chan_deck.specs.PartsValue.{storage_with, version_with}
 use Rattle.chan_deck.specs.VerdictLine.{verdict_line}
 use Rattle.chan_walk.specs.declared.job.Job.{Job}
 use Rattle.chan_walk.specs.declared.place.Place.{Place}
@@ -28,7 +28,7 @@ use Rattle.chan_run.specs.declared.name.Naming.{Naming}
 use Rattle.ckd_core.specs.Extents.{all_cylinders}
 
 -- the job is that of the deck, its limit on places with it
-pub record IsDeckJob (d : Image) (j : Job) : Type 0 where
+pub record IsDeckJob (d : DeckValue) (j : Job) : Type 0 where
   pub storage : storage_of j ≡ d.storage
   pub start : j.start ≡ d.start
   pub device : j.device ≡ d.device
@@ -40,7 +40,7 @@ pub record IsDeckJob (d : Image) (j : Job) : Type 0 where
 
 -- the text spells a deck, and this holds of the deck's job
 pub record HoldsOfDeckJob (t : List ℕ) (Holds : Job → Type 0) : Type 0 where
-  pub deck : Image
+  pub deck : DeckValue
   pub spelled : Spells t deck
   pub job : Job
   pub of_deck : IsDeckJob deck job
@@ -56,7 +56,7 @@ abbrev pub extents_for : List (ℕ × ℕ) → List (ℕ × ℕ)
 extents_for [] = all_cylinders
 extents_for (run ∷ runs) = run ∷ runs
 
-abbrev pub granting_just : Image → Listed → Image
+abbrev pub granting_just : DeckValue → Listed → DeckValue
 granting_just d n = record d {
   mask = n.mask;
   extents = extents_for n.extents;
@@ -69,7 +69,7 @@ abbrev pub unusual_limit : ℕ → Option ℕ
 unusual_limit limit = if limit == usual_limit then None else Some limit
 
 -- the deck of the job, with zeros behind its storage up to a multiple of 8
-abbrev pub deck_of_job : Job → Image
+abbrev pub deck_of_job : Job → DeckValue
 deck_of_job j =
     record {
       version = version_with (unusual_limit j.limit);

@@ -1,7 +1,7 @@
 //! The parts of the deck that options and an image make.
 
 ghost use Rattle.std.specs.Prelude.{◌≡◌};
-ghost use Rattle.chan_deck.specs.PartsImage.{HasShortAddresses, image_of_parts};
+ghost use Rattle.chan_deck.specs.PartsValue.{HasShortAddresses, value_of_parts};
 ghost use Rattle.chan_run.specs.Image.{deck_of};
 
 use chan_args::ImageOptions;
@@ -17,7 +17,7 @@ pub(crate) fn limit_in(options: &ImageOptions) -> Option<Limit>
 
 /// The parts of the deck that the options and an image of storage make.
 pub(crate) fn deck_parts<'a>(options: &'a ImageOptions, image: &'a [u8]) -> Parts<'a>
-    ensures made { image_of_parts result ≡ deck_of options.entry.now image.entry.now }
+    ensures made { value_of_parts result ≡ deck_of options.entry.now image.entry.now }
     ensures short { HasShortAddresses result }
     ensures image { (result.at ≡ options.entry.now.at) × (result.image ≡ image.entry) }
 {

@@ -5,8 +5,8 @@ ghost use Rattle.std.specs.Prelude.{if◌then◌else◌, is_some, IfOk, IfSome, 
 ghost use Rattle.chan_run.specs.Image.{IsDeckText, IsNoImage, IsImageRoom};
 ghost use Rattle.chan_run.specs.NoJob.{IsNoDeckFor};
 ghost use Rattle.chan_run.specs.Image.{IsWholeImage, areas_over, deck_of, filled, open_deck};
-ghost use Rattle.chan_deck.specs.Image.{Spells};
-ghost use Rattle.chan_deck.specs.PartsImage.{storage_with};
+ghost use Rattle.chan_deck.specs.DeckValue.{Spells};
+ghost use Rattle.chan_deck.specs.PartsValue.{storage_with};
 ghost use Rattle.chan_run.specs.declared.failure.Failure.TheVariants as failures;
 ghost use Rattle.ccw_core.specs.declared.ccw.TheConstants.{STORAGE_LIMIT};
 

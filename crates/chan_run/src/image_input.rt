@@ -52,7 +52,7 @@ impl<R: Read> Read for ImageInput<R> {
 /// becomes the dump's own, or zero if the input isn't a dump. Where there is no image, the writer
 /// gets the line that says so, and the exit status is given.
 ///
-/// A text is read to its end, and an input that is none not beyond its first bytes.
+/// If the input is text, it is read to its end; if not, only its first bytes are read here.
 pub fn take_image<R: Read + Drop, W: Write>(
     alloc: Global,
     name: Option<&str>,

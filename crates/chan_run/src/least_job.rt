@@ -4,7 +4,7 @@ ghost use Rattle.std.specs.Prelude.{◌≡◌, ◌+◌, ◌≤◌, ◌^◌, List
 ghost use Rattle.std.specs.Prelude.{string_bytes};
 ghost use Rattle.std.specs.List.{AllByRecursion};
 ghost use Rattle.ckd_core.specs.Extents.{IsExtent};
-ghost use Rattle.chan_deck.specs.PartsImage.{storage_with, image_of_parts};
+ghost use Rattle.chan_deck.specs.PartsValue.{storage_with, value_of_parts};
 ghost use Rattle.ccw_core.specs.Held.{bytes_held};
 ghost use Rattle.chan_walk.specs.JobSurvey.{IsSurvey};
 ghost use Rattle.chan_walk.specs.OpenJob.{AreOfOneProgram};
@@ -14,7 +14,7 @@ ghost use Rattle.chan_args.specs.declared.image_options.RequestedJob.TheVariants
 ghost use Rattle.chan_run.specs.Image.{IsDeckText, IsProgramAt, IsProgramIn};
 ghost use Rattle.chan_run.specs.NoJob.{HasNoLeastJob, IsExplainedOpenly};
 ghost use Rattle.chan_run.specs.Output.{IsLeastText, extents_for, granting_just, unusual_limit};
-ghost use Rattle.chan_deck.specs.Image.{Spells};
+ghost use Rattle.chan_deck.specs.DeckValue.{Spells};
 ghost use Rattle.chan_deck.specs.Item.{IsAddress};
 ghost use Rattle.chan_walk.specs.Job.{storage_of};
 ghost use Rattle.chan_args.specs.declared.image_options.ImageOptions.{ImageOptions};
@@ -89,7 +89,7 @@ pub(crate) fn granting_text(
     requires needs { (j : Job) × AreNeeds j (listed needs.now)
         × (length (storage_of j) ≤ STORAGE_LIMIT) }
     ensures { IfOk result (λ text.
-        Spells text.items (granting_just (image_of_parts parts.entry) (listed needs.now))) }
+        Spells text.items (granting_just (value_of_parts parts.entry) (listed needs.now))) }
 {
     let runs = pairs_of(alloc, &needs.extents)?;
     let extents = extents_over(alloc, &runs)?;

@@ -34,9 +34,9 @@ IsStoredInto j b = IsDataOf stores j b
 -- ---- place by place
 
 -- it is so, and the byte at b is in the data range of the CCW that was seen
-pub record IsSeenByte (l : Seen) (is_so : Bool) (b : ℕ) : Type 0 where
+pub record IsSeenByte (l : Seen) (counts : Bool) (b : ℕ) : Type 0 where
   pub ccw : Fields
   pub seen : l.ccw ≡ Some ccw
-  pub so : is_so ≡ true
+  pub so : counts ≡ true
   pub from : (data_of ccw).start ≤ b
   pub below : b < end_of (data_of ccw)

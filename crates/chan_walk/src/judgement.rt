@@ -9,7 +9,6 @@ ghost use Rattle.chan_walk.specs.Offence.{first_verdict};
 ghost use Rattle.chan_walk.specs.JobSurvey.{IsSurvey};
 ghost use Rattle.chan_walk.specs.Verdict.{IsVerdict};
 
-use crate::error::WalkError;
 use crate::guard::Guard;
 use crate::job::Job;
 use crate::job_survey::Survey;
@@ -19,6 +18,7 @@ use crate::laws::{
 use crate::offence::offences_of;
 use crate::verdict::Verdict;
 use crate::walk::{Walk, walk_all};
+use crate::walk_error::WalkError;
 use std::alloc::Global;
 
 /// Surveys a job: walks once over the places that its program can come to, and looks at each once.

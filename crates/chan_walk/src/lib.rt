@@ -13,7 +13,6 @@
 mod argument;
 mod bits;
 mod direction;
-mod error;
 mod evidence;
 mod fault;
 mod guard;
@@ -37,10 +36,10 @@ mod successor;
 mod verdict;
 mod visit;
 mod walk;
+mod walk_error;
 
 pub use crate::argument::{GivenBytes, Operand, seek_argument};
 pub use crate::direction::Direction;
-pub use crate::error::WalkError;
 pub use crate::evidence::{Evidence, Outside};
 pub use crate::guard::Guard;
 pub use crate::job::Job;
@@ -59,3 +58,4 @@ pub use crate::setting::{Setting, setting_at};
 pub use crate::successor::Next;
 pub use crate::verdict::Verdict;
 pub use crate::walk::explore;
+pub use crate::walk_error::WalkError;

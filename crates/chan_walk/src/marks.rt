@@ -6,9 +6,9 @@ ghost use Rattle.chan_walk.specs.Marks.{ways};
 ghost use Rattle.chan_walk.specs.Look.{places_of_looks};
 ghost use Rattle.chan_walk.specs.Walk.{Marks, MarksAgree};
 
-use crate::error::WalkError;
 use crate::look::Look;
 use crate::place::{Entry, Place};
+use crate::walk_error::WalkError;
 use std::alloc::Global;
 use std::collections::BTreeMap;
 

@@ -33,14 +33,14 @@ pub fn data_moved(alloc: Global, looks: &[Look], direction: Direction) -> Result
 }
 
 /// Adds the data range of the CCW at a place, if the CCW moves its data.
-fn add_range(ranges: &mut Vec<Area>, look: &Look, is_so: bool) -> Result<(), AllocError>
+fn add_range(ranges: &mut Vec<Area>, look: &Look, counts: bool) -> Result<(), AllocError>
     requires { All (EndsBelow (2 ^ 32)) ranges.old.items }
     ensures low { OnOk result (All (EndsBelow (2 ^ 32)) ranges.new.items) }
     ensures bytes { OnOk result (AddsBytes ranges.old.items ranges.new.items
-        (IsSeenByte look.now is_so)) }
+        (IsSeenByte look.now counts)) }
 {
     match look.ccw() {
-        Some(ccw) if is_so => add_area(ranges, data_of(&ccw))?,
+        Some(ccw) if counts => add_area(ranges, data_of(&ccw))?,
         _ => {}
     }
     Ok(())

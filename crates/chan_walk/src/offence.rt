@@ -124,12 +124,12 @@ fn add_change(
     changes: &mut Vec<Offence>,
     look: &Look,
     reason: Reason,
-    is_so: bool,
+    counts: bool,
 ) -> Result<(), AllocError>
-    ensures { OnOk result (AddsOffences (λ _ t. (t ≡ reason) × IsTrue is_so) look.now.place
+    ensures { OnOk result (AddsOffences (λ _ t. (t ≡ reason) × IsTrue counts) look.now.place
         changes.old.items changes.new.items) }
 {
-    if is_so {
+    if counts {
         changes.push(Offence {
             place: look.place(),
             reason,

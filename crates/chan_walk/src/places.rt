@@ -5,9 +5,9 @@ ghost use Rattle.std.specs.Int.{bit_at};
 ghost use Rattle.std.specs.Iterator.{YieldsFirst, item_count};
 ghost use Rattle.chan_walk.specs.Marks.{HasWay, ListsMarks};
 
-use crate::error::WalkError;
 use crate::marks::{bits_at, push_ways};
 use crate::place::Place;
+use crate::walk_error::WalkError;
 use std::alloc::Global;
 use std::collections::BTreeMap;
 use std::marker::Model;

@@ -8,7 +8,6 @@ ghost use Rattle.chan_walk.specs.PlaceTable.{FindsPlaces};
 ghost use Rattle.chan_walk.specs.Walk.{AddsPlace, HasFound, IsTraced, IsWalked};
 ghost use Rattle.chan_walk.specs.Walk.{HasNoRoomFor};
 
-use crate::error::WalkError;
 use crate::job::Job;
 use crate::lent::{Lending, Lent};
 use crate::look::{Look, look_by};
@@ -16,6 +15,7 @@ use crate::marks::marks_of_looks;
 use crate::place::{Place, first_place};
 use crate::place_table::PlaceTable;
 use crate::places::Explored;
+use crate::walk_error::WalkError;
 use std::alloc::Global;
 
 /// What is seen of the places found, in the order in which they were.

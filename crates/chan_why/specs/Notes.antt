@@ -79,4 +79,4 @@ IsSeenWith test l = (c : Fields) × (l.ccw ≡ Some c) × (test l.place c ≡ tr
 
 -- the new addresses are the old ones, a where the test is passed, and no others
 abbrev pub AddsAddress : Bool → ℕ → List ℕ → List ℕ → Type 0
-AddsAddress is_so a old new = (b : ℕ) → Has new b ↔ (Has old b ⊎ (IsTrue is_so × (a ≡ b)))
+AddsAddress counts a old new = (b : ℕ) → Has new b ↔ (Has old b ⊎ (IsTrue counts × (a ≡ b)))

@@ -11,13 +11,13 @@
 //! ```
 #![tactic(auto)]
 
-mod evidence;
 mod exchange;
 mod finder;
 mod findings;
 mod hang;
 mod laws;
 mod notes;
+mod offence_evidence;
 mod path;
 mod remarks;
 mod second_path;

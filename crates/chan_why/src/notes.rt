@@ -155,11 +155,11 @@ fn spare(alloc: Global, looks: &[Look]) -> Result<Vec<u32>, AllocError> {
 }
 
 /// Adds the address of a place, if its CCW counts.
-fn add_address(addresses: &mut Vec<u32>, look: &Look, is_so: bool) -> Result<(), AllocError>
-    ensures { OnOk result (AddsAddress is_so look.now.place.address
+fn add_address(addresses: &mut Vec<u32>, look: &Look, counts: bool) -> Result<(), AllocError>
+    ensures { OnOk result (AddsAddress counts look.now.place.address
         addresses.old.items addresses.new.items) }
 {
-    if is_so {
+    if counts {
         addresses.push(look.place().address)?;
     }
     Ok(())

@@ -12,8 +12,8 @@ ghost use Rattle.chan_walk.specs.Reason.{is_no_command};
 ghost use Rattle.chan_walk.specs.declared.job.Job.{Job};
 ghost use Rattle.chan_walk.specs.declared.verdict.Verdict.TheVariants.{No};
 
-use crate::evidence::evidence_at;
 use crate::finder::Finder;
+use crate::offence_evidence::evidence_at;
 use crate::path::{Path, path_at};
 use crate::second_path::second_path;
 use chan_walk::{Evidence, Offence, Place, Reason, Survey};

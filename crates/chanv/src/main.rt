@@ -47,8 +47,8 @@ struct Words {
 }
 
 impl Words {
-    /// The number of the first word that is shown so, from this number on; none is shown like
-    /// another. Without one, how many words there are.
+    /// The index of the first word from `from` on that is shown as this name, or how many words
+    /// there are. No two words are shown alike.
     fn first_shown_as(&self, from: usize, name: &str) -> usize {
         for number in from..self.shown.len() {
             if self.shown[number].as_str() == name {

@@ -8,7 +8,7 @@ use Rattle.chan_needs.specs.Remembered.{HoldsAreas}
 use Rattle.chan_needs.specs.Listed.{Listed}
 use Rattle.chan_needs.proofs.Remembering.{same_device, same_held}
 use Rattle.chan_needs.proofs.Staying.{needs_stay}
-use Rattle.chanv_c.specs.declared.job.CJob.{CJob}
+use Rattle.chanv_c.specs.declared.c_job.CJob.{CJob}
 use Rattle.chanv_c.specs.Needs.{AreNeedsOf, AreNeedsWhereHeld, with_areas}
 
 -- the needs over one storage are those over each that is as long and holds the kept bytes

@@ -9,7 +9,7 @@ use Rattle.chan_needs.specs.declared.layout.Remembered.{Remembered}
 use Rattle.chan_needs.specs.Remembered.{HoldsAreas, device_number}
 use Rattle.chan_needs.specs.Start.{IsFit}
 use Rattle.chan_needs.proofs.Remembering.{same_device}
-use Rattle.chanv_c.specs.declared.job.CJob.{CJob}
+use Rattle.chanv_c.specs.declared.c_job.CJob.{CJob}
 use Rattle.chanv_c.specs.Job.{AreEqualJobs, AskedIsOne, IsAskedJob, NameEqualJobs}
 
 -- one struct of C asks about one job

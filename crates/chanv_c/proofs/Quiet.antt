@@ -27,7 +27,7 @@ use Rattle.chan_needs.proofs.Inside.{keep_inside}
 use Rattle.chan_needs.proofs.Remembering.{same_device}
 use Rattle.chan_needs.proofs.Staying.{holds_over, needs_stay, reached_same}
 use Rattle.chan_why.specs.declared.remarks.Remarks.{Remarks}
-use Rattle.chanv_c.specs.declared.job.CJob.{CJob}
+use Rattle.chanv_c.specs.declared.c_job.CJob.{CJob}
 use Rattle.chanv_c.specs.declared.refusal.Refusal.{Refusal}
 use Rattle.chanv_c.specs.declared.refusal.Refusal.TheVariants.{Memory, TooManyPlaces, Wrong}
 use Rattle.chanv_c.specs.Answers.{IsRefusal}

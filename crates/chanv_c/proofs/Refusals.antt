@@ -1,7 +1,7 @@
 -- What the number of an answer says of the job.
 use Rattle.std.proofs.Common.{◌≡◌, ◌≢◌, ◌<◌, ◌≤◌, ◌⊎◌, ◌∷◌, [], ℕ, zero, suc, List, Some, true, ap, length, refl, arith, inl, inr, rules, subst}
 use Rattle.chanv_c.specs.declared.codes.TheConstants as codes
-use Rattle.chanv_c.specs.declared.job.CJob.{CJob}
+use Rattle.chanv_c.specs.declared.c_job.CJob.{CJob}
 use Rattle.chanv_c.specs.declared.refusal.JobFault.{JobFault}
 use Rattle.chanv_c.specs.declared.refusal.JobFault.TheVariants.{StorageTooLarge, NotADevice, NotAMask, NoExtent, ExtentBackwards, ExtentPastDevice, NotALimit}
 use Rattle.chanv_c.specs.declared.refusal.Refusal.{Refusal}
@@ -15,8 +15,8 @@ use Rattle.ckd_core.specs.Extents.{AreExtents, IsExtent}
 use Rattle.ckd_core.specs.Mask.{is_mask}
 use Rattle.std.specs.List.{AllByRecursion, slice_get}
 use Rattle.std.proofs.lemmas.Bool.{both_ways}
-use Rattle.chan_walk.specs.declared.error.WalkError.{WalkError}
-use Rattle.chan_walk.specs.declared.error.WalkError.TheVariants as walk
+use Rattle.chan_walk.specs.declared.walk_error.WalkError.{WalkError}
+use Rattle.chan_walk.specs.declared.walk_error.WalkError.TheVariants as walk
 use Rattle.std.proofs.lemmas.Result.{err_from_is_err_and}
 use Rattle.std.specs.Result.{IfErr, IsErrAnd}
 use Rattle.std.specs.declared.result.Result.{Result}

@@ -1,8 +1,8 @@
 -- What the answers to C promise.
 use Rattle.std.specs.Prelude.{◌≡◌, ◌≢◌, ◌<◌, ◌≤◌, ◌⊎◌, ℕ, List, ◌++◌, drop, length, map}
 use Rattle.chan_walk.specs.declared.job.Job.{Job}
-use Rattle.chan_walk.specs.declared.error.WalkError.{WalkError}
-use Rattle.chan_walk.specs.declared.error.WalkError.TheVariants as walk
+use Rattle.chan_walk.specs.declared.walk_error.WalkError.{WalkError}
+use Rattle.chan_walk.specs.declared.walk_error.WalkError.TheVariants as walk
 use Rattle.chan_walk.specs.declared.place.Place.{Place}
 use Rattle.chan_walk.specs.declared.reason.Reason.{Reason}
 use Rattle.chan_walk.specs.declared.verdict.Verdict.{Verdict}
@@ -10,10 +10,10 @@ use Rattle.chan_walk.specs.declared.verdict.Verdict.TheVariants.{No}
 use Rattle.chan_walk.specs.Answers.{IsAnswer}
 use Rattle.chan_walk.specs.Places.{AreReachable, HasMoreThan, entry_number, transfer_number}
 use Rattle.chan_walk.specs.Reason.{number_of}
-use Rattle.chanv_c.specs.declared.job.CJob.{CJob}
+use Rattle.chanv_c.specs.declared.c_job.CJob.{CJob}
 use Rattle.chanv_c.specs.declared.refusal.Refusal.{Refusal}
 use Rattle.chanv_c.specs.declared.refusal.Refusal.TheVariants.{TooManyPlaces, Memory, Wrong}
-use Rattle.chanv_c.specs.declared.writing.CPlace.{CPlace}
+use Rattle.chanv_c.specs.declared.c_place.CPlace.{CPlace}
 use Rattle.chanv_c.specs.Job.{IsAskedJob}
 use Rattle.chanv_c.specs.Faults.{HasNoFault, HasNoFaultBelow, IsFirstFault, HasFaultCode}
 use Rattle.chanv_c.specs.Faults.{fault_code, fault_extent}

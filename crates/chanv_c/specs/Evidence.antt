@@ -8,7 +8,7 @@ use Rattle.chan_walk.specs.declared.evidence.Outside.TheVariants.{Bin, Cylinder,
 use Rattle.chan_walk.specs.declared.argument.GivenBytes.{GivenBytes}
 use Rattle.chan_walk.specs.Evidence.{reason_of}
 use Rattle.chan_walk.specs.Reason.{number_of}
-use Rattle.chanv_c.specs.declared.evidence.CEvidence.{CEvidence}
+use Rattle.chanv_c.specs.declared.c_evidence.CEvidence.{CEvidence}
 
 -- an area of no bytes, which stands where there is none
 abbrev pub no_area : Area

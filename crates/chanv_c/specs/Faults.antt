@@ -4,7 +4,7 @@ use Rattle.ckd_core.specs.Extents.{AreExtents}
 use Rattle.ckd_core.specs.Faults.{IsBackwards, IsFirstWrong, IsPastDevice}
 use Rattle.ckd_core.specs.Mask.{is_mask}
 use Rattle.chan_walk.specs.Limit.{IsLimit}
-use Rattle.chanv_c.specs.declared.job.CJob.{CJob}
+use Rattle.chanv_c.specs.declared.c_job.CJob.{CJob}
 use Rattle.chanv_c.specs.declared.refusal.JobFault.{JobFault}
 use Rattle.chanv_c.specs.declared.refusal.JobFault.TheVariants.{StorageTooLarge, NotADevice}
 use Rattle.chanv_c.specs.declared.refusal.JobFault.TheVariants.{NotAMask, NoExtent, ExtentBackwards}

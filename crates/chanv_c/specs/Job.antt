@@ -5,8 +5,8 @@ use Rattle.chan_walk.specs.declared.job.Job.{Job}
 use Rattle.chan_walk.specs.Job.{extents_of, fetch_of, storage_of, store_of}
 use Rattle.chan_needs.specs.Remembered.{device_number}
 use Rattle.chan_needs.specs.Listed.{pair}
-use Rattle.chanv_c.specs.declared.job.CJob.{CJob}
-use Rattle.chanv_c.specs.declared.job.ReadyJob.{ReadyJob}
+use Rattle.chanv_c.specs.declared.c_job.CJob.{CJob}
+use Rattle.chanv_c.specs.declared.c_job.ReadyJob.{ReadyJob}
 
 -- the extents that C names, as pairs
 abbrev pub extents_asked : CJob → List (ℕ × ℕ)

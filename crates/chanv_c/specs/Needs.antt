@@ -18,10 +18,10 @@ use Rattle.chan_why.specs.declared.remarks.Remarks.{Remarks}
 use Rattle.chan_why.specs.Remarks.{AreRemarks}
 use Rattle.chan_needs.specs.Remembered.{HoldsAreas, bytes_in, device_number, total_len}
 use Rattle.chan_needs.specs.declared.layout.Extent.{Extent}
-use Rattle.chanv_c.specs.declared.job.CJob.{CJob}
-use Rattle.chanv_c.specs.declared.needs.CNeeded.{CNeeded}
-use Rattle.chanv_c.specs.declared.needs.FoundNeeds.{FoundNeeds}
-use Rattle.chanv_c.specs.declared.needs.FoundNeeds.TheVariants as found
+use Rattle.chanv_c.specs.declared.c_job.CJob.{CJob}
+use Rattle.chanv_c.specs.declared.take_in.CNeeded.{CNeeded}
+use Rattle.chanv_c.specs.declared.take_in.FoundNeeds.{FoundNeeds}
+use Rattle.chanv_c.specs.declared.take_in.FoundNeeds.TheVariants as found
 use Rattle.chanv_c.specs.declared.verify.CVerdict.{CVerdict}
 use Rattle.chanv_c.specs.declared.refusal.Refusal.{Refusal}
 use Rattle.chanv_c.specs.declared.refusal.Refusal.TheVariants.{Memory}

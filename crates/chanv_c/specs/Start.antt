@@ -13,8 +13,8 @@ use Rattle.chan_needs.specs.declared.start.Start.TheVariants as answer
 use Rattle.chan_needs.specs.Needs.{Grants, KeepsProgram}
 use Rattle.chan_needs.specs.Remembered.{HoldsKept, IsKeeperOf, IsKeptOutside, IsRemembered}
 use Rattle.chan_needs.specs.Start.{IsAnswerOf, IsCompatibleWith, IsFit, StartsWell}
-use Rattle.chanv_c.specs.declared.job.CJob.{CJob}
-use Rattle.chanv_c.specs.declared.start.CRefusal.{CRefusal}
+use Rattle.chanv_c.specs.declared.c_job.CJob.{CJob}
+use Rattle.chanv_c.specs.declared.checks.CRefusal.{CRefusal}
 use Rattle.chanv_c.specs.Faults.{HasNoFault}
 use Rattle.chanv_c.specs.Job.{IsAskedJob}
 use Rattle.chanv_c.specs.declared.codes.TheConstants as codes

@@ -9,7 +9,7 @@ use Rattle.chan_walk.specs.Answers.{IsAnswer}
 use Rattle.chan_why.specs.Witness.{IsWitnessOf}
 use Rattle.chan_walk.specs.Offence.{AreOffences, first_verdict}
 use Rattle.chan_deck.specs.Explanation.{IsExplanationText}
-use Rattle.chanv_c.specs.declared.job.CJob.{CJob}
+use Rattle.chanv_c.specs.declared.c_job.CJob.{CJob}
 use Rattle.chanv_c.specs.declared.text.VerdictText.{VerdictText}
 use Rattle.chanv_c.specs.Job.{IsAskedJob}
 use Rattle.chanv_c.specs.declared.codes.TheConstants as codes

@@ -7,10 +7,10 @@ use Rattle.chan_walk.specs.declared.verdict.Verdict.TheVariants.{Yes, No}
 use Rattle.chan_walk.specs.Answers.{IsAnswer}
 use Rattle.chan_why.specs.Witness.{IsWitnessOf}
 use Rattle.chan_walk.specs.Reason.{number_of}
-use Rattle.chanv_c.specs.declared.job.CJob.{CJob}
+use Rattle.chanv_c.specs.declared.c_job.CJob.{CJob}
 use Rattle.chanv_c.specs.declared.why.CExplanation.{CExplanation}
 use Rattle.chanv_c.specs.declared.why.WitnessedVerdict.{WitnessedVerdict}
-use Rattle.chanv_c.specs.declared.writing.CPlace.{CPlace}
+use Rattle.chanv_c.specs.declared.c_place.CPlace.{CPlace}
 use Rattle.chanv_c.specs.declared.verify.CVerdict.{CVerdict}
 use Rattle.chanv_c.specs.Answers.{place_for_c}
 use Rattle.chanv_c.specs.Job.{IsAskedJob}

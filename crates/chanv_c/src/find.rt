@@ -6,9 +6,9 @@ ghost use Rattle.ccw_core.specs.declared.ccw.TheConstants.{STORAGE_LIMIT};
 ghost use Rattle.chanv_c.specs.declared.codes.TheConstants.{MEMORY, NO_ROOM, NOT_A_DEVICE, YES};
 ghost use Rattle.chanv_c.specs.declared.codes.TheConstants.{STORAGE_TOO_LARGE};
 
+use crate::c_job::numbered_device;
+use crate::c_place::write_list;
 use crate::codes::{MEMORY, NO_ROOM, NOT_A_DEVICE, STORAGE_TOO_LARGE, YES};
-use crate::job::numbered_device;
-use crate::writing::write_list;
 use ccw_core::Storage;
 use chan_find::program_starts;
 use chan_needs::or_empty;

@@ -4,29 +4,29 @@
 //! `include/chanv.h` declares what this library exports, and lists the rules for a caller.
 #![tactic(auto)]
 
+mod c_evidence;
+mod c_job;
+mod c_place;
+mod checks;
 mod codes;
-mod evidence;
 mod find;
-mod job;
 mod laws;
+mod library_version;
 mod list;
-mod needs;
 mod refusal;
-mod start;
+mod take_in;
 mod text;
 mod verify;
-mod version;
 mod why;
-mod writing;
 
-pub use crate::evidence::CEvidence;
+pub use crate::c_evidence::CEvidence;
+pub use crate::c_job::CJob;
+pub use crate::c_place::CPlace;
+pub use crate::checks::{CRefusal, chanv_check_kept, chanv_check_start, chanv_check_write};
 pub use crate::find::{CBytes, chanv_find};
-pub use crate::job::CJob;
+pub use crate::library_version::chanv_version;
 pub use crate::list::chanv_list;
-pub use crate::needs::{CNeeded, needs_by_copy};
-pub use crate::start::{CRefusal, chanv_check_kept, chanv_check_start, chanv_check_write};
+pub use crate::take_in::{CNeeded, needs_by_copy};
 pub use crate::text::chanv_text;
 pub use crate::verify::{CVerdict, chanv_verify};
-pub use crate::version::chanv_version;
 pub use crate::why::{CExplanation, chanv_why};
-pub use crate::writing::CPlace;

@@ -6,10 +6,10 @@ ghost use Rattle.chanv_c.specs.Answers.{IsAnswerCode, IsRefusal};
 ghost use Rattle.chanv_c.specs.Faults.{HasNoFault};
 ghost use Rattle.chanv_c.specs.declared.codes.TheConstants.{YES, NO, STORAGE_TOO_LARGE, NO_ROOM};
 
+use crate::c_job::{CJob, make_ready};
+use crate::c_place::{CPlace, write_places};
 use crate::codes::{NO_ROOM, YES};
-use crate::job::{CJob, make_ready};
 use crate::refusal::Refusal;
-use crate::writing::{CPlace, write_places};
 use chan_walk::{Explored, explore};
 use std::alloc::Global;
 

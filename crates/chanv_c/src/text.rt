@@ -8,10 +8,10 @@ ghost use Rattle.chanv_c.specs.Text.{IsText, IsWrittenWhole, IsTextTooLong};
 ghost use Rattle.chanv_c.specs.Text.{verdict_code};
 ghost use Rattle.chanv_c.specs.declared.codes.TheConstants.{NO, NO_ROOM};
 
+use crate::c_job::{CJob, make_ready};
+use crate::c_place::write_list;
 use crate::codes::{NO, NO_ROOM, YES};
-use crate::job::{CJob, make_ready};
 use crate::refusal::Refusal;
-use crate::writing::write_list;
 use chan_deck::explanation_text;
 use chan_walk::{Verdict, survey};
 use chan_why::witness_from;

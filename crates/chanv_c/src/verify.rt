@@ -7,8 +7,8 @@ ghost use Rattle.chanv_c.specs.Faults.{HasNoFault};
 ghost use Rattle.chanv_c.specs.Why.{verdict_for_c};
 ghost use Rattle.chanv_c.specs.declared.codes.TheConstants.{YES, NO, STORAGE_TOO_LARGE, NO_ROOM};
 
+use crate::c_job::{CJob, make_ready};
 use crate::codes::{NO, YES};
-use crate::job::{CJob, make_ready};
 use crate::refusal::Refusal;
 use chan_walk::{Verdict, verify};
 use std::alloc::Global;

@@ -10,12 +10,12 @@ ghost use Rattle.chanv_c.specs.Why.{HasLittleRoomFor, no_explanation_for_c};
 ghost use Rattle.chanv_c.specs.declared.why.WitnessedVerdict as declared;
 ghost use Rattle.chanv_c.specs.declared.codes.TheConstants.{YES, NO, STORAGE_TOO_LARGE, NO_ROOM};
 
+use crate::c_evidence::{CEvidence, NO_VALUES, cause_for_c};
+use crate::c_job::{CJob, make_ready};
+use crate::c_place::{CPlace, write_path};
 use crate::codes::{NO, NO_ROOM, YES};
-use crate::evidence::{CEvidence, NO_VALUES, cause_for_c};
-use crate::job::{CJob, make_ready};
 use crate::refusal::Refusal;
 use crate::verify::{CVerdict, NO_VERDICT, verdict_of};
-use crate::writing::{CPlace, write_path};
 use chan_walk::{Place, Verdict, survey};
 use chan_why::{Witness, witness_from};
 use std::alloc::Global;

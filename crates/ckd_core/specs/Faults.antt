@@ -1,4 +1,4 @@
--- Why pairs of cylinders are no extents: the first pair from the left that is none.
+-- Why pairs of cylinders are no extents: the first pair from the left that isn't an extent.
 use Rattle.std.specs.Prelude.{◌≡◌, ℕ, ◌<◌, ◌≤◌, List, [], take, Some, slice_get}
 use Rattle.std.specs.List.{AllByRecursion}
 use Rattle.ckd_core.specs.Extents.{IsExtent, AreExtents}

@@ -2,7 +2,7 @@
 
 ghost use Rattle.chan_walk.specs.JobSurvey.{IsSurvey};
 
-use chan_needs::{Needs, Remembered, Start, copy_kept, may_start, needs_from};
+use chan_needs::{Needs, Remembered, Start, check_start, copy_kept, needs_from};
 use chan_walk::{Job, OpenJob, Survey, Verdict, survey};
 use std::alloc::Global;
 
@@ -44,5 +44,5 @@ fn are_so(alloc: Global, needs: &Needs, job: &Job) -> bool {
         start: job.start,
         device: 2314,
     };
-    kept[0] == 0x31 && may_start(alloc, job, &program, &[]) == Ok(Start::Yes)
+    kept[0] == 0x31 && check_start(alloc, job, &program, &[]) == Ok(Start::Yes)
 }

@@ -4,8 +4,8 @@ use crate::shared::expect;
 use crate::walk::program::{Program, Question, SEARCH_LOOP, USUAL, holds};
 use ccw_core::{Area, Storage};
 use chan_needs::{
-    Conflict, Extent, NeedLists, Remembered, Start, StartRefusal, copy_kept, kept_len, may_start,
-    may_write, or_empty,
+    Conflict, Extent, NeedLists, Remembered, Start, StartRefusal, check_start, check_write,
+    copy_kept, kept_len, or_empty,
 };
 use chan_walk::Job;
 use std::alloc::Global;
@@ -73,9 +73,9 @@ pub(crate) fn is_answered(alloc: Global, job: &Job, right: usize, answer: Start)
     let keeps = [area(keep, 8)];
     let stores = [area(if right > 9 { 0xC00 } else { 0x817 }, 2)];
     let others = [flight(&[], &[]), flight(&stores, &keeps)];
-    may_start(alloc, job, &program, &others) == Ok(answer)
-        && may_write(&others, area(keep + 7, 0xFFFF_FFFF)) == Some((1, keep + 7))
-        && may_write(&others, area(keep - 1, 1)) == None
+    check_start(alloc, job, &program, &others) == Ok(answer)
+        && check_write(&others, area(keep + 7, 0xFFFF_FFFF)) == Some((1, keep + 7))
+        && check_write(&others, area(keep - 1, 1)) == None
 }
 
 static ANSWERS: [Start; 11] = [

@@ -1,4 +1,4 @@
-use Rattle.chan_deck.proofs.Names.{ap, HasLimit, image_of_parts, List, replicate, spelling, storage_with, subst, Version, ℕ, ◌*◌, ◌++◌, ◌/◌, ◌∙◌, ◌≡◌}
+use Rattle.chan_deck.proofs.Names.{ap, HasLimit, value_of_parts, List, replicate, spelling, storage_with, subst, Version, ℕ, ◌*◌, ◌++◌, ◌/◌, ◌∙◌, ◌≡◌}
 use Rattle.chan_deck.proofs.PartLemmas.{from_facts, parts_deck}
 use Rattle.chan_deck.proofs.parts.parts_text.Goals as goal
 
@@ -12,6 +12,6 @@ returns c =
     (λ text spelled limited masked cylinders. (
       parts_deck p c.requires.size c.requires.addresses (subst (λ (v : Version). HasLimit v) c.version_of.ensures limited)
           masked cylinders c.in_ok-bytes.ensures.image,
-      spelled ∙ ap (λ (s : List ℕ). spelling (record (image_of_parts p) { version = version; storage = s })) storage
-          ∙ ap (λ (v : Version). spelling (record (image_of_parts p) { version = v })) c.version_of.ensures,
+      spelled ∙ ap (λ (s : List ℕ). spelling (record (value_of_parts p) { version = version; storage = s })) storage
+          ∙ ap (λ (v : Version). spelling (record (value_of_parts p) { version = v })) c.version_of.ensures,
     ))

@@ -1,5 +1,5 @@
-use Rattle.chan_deck.proofs.Names.{Err, err_from_is_err_and, image_of, inl, refl, rules, Spells, ◌≡◌}
-use Rattle.chan_deck.specs.declared.error.DeckError.TheVariants.{Memory}
+use Rattle.chan_deck.proofs.Names.{Err, err_from_is_err_and, value_of, inl, refl, rules, Spells, ◌≡◌}
+use Rattle.chan_deck.specs.declared.deck_error.DeckError.TheVariants.{Memory}
 use Rattle.chan_deck.proofs.RefusalLemmas.{refusal_only, same_deck}
 use Rattle.chan_deck.proofs.reading.read_deck.Goals as goal
 
@@ -11,7 +11,7 @@ returns-in_err-heading-clause-named c =
 -- where all is read, the text spells what was read
 spelled : (c : goal.After-drop-extents-2)
     → Spells c.args.text.now
-    (image_of c.in_ok-heading.heading c.in_ok-extents.extents c.in_ok-heading.lists.fetch.items c.in_ok-heading.lists.store.items
+    (value_of c.in_ok-heading.heading c.in_ok-extents.extents c.in_ok-heading.lists.fetch.items c.in_ok-heading.lists.store.items
     c.in_ok-heading.storage.items)
 spelled c = search rules
 

@@ -1,4 +1,4 @@
-use Rattle.chan_deck.proofs.Names.{[], drop, err_from_is_err_and, Filling, image_of, length, Spells, subst, sym, take, take_at, ◌++◌, ◌∙◌, ◌≡◌}
+use Rattle.chan_deck.proofs.Names.{[], drop, err_from_is_err_and, Filling, value_of, length, Spells, subst, sym, take, take_at, ◌++◌, ◌∙◌, ◌≡◌}
 use Rattle.chan_deck.specs.Reading.{HasReadTo}
 use Rattle.chan_deck.proofs.reading.read_parts.Goals as goal
 use Rattle.chan_deck.proofs.reading.read_parts.Goals.{After-fill}
@@ -43,4 +43,4 @@ returns c =
     let new = c.fill.new.storage in
     let same : take c.in_ok-storage.storage.len (new ++ drop (length new) c.in_ok-storage.storage.items) ≡ new =
     take_at new (drop (length new) c.in_ok-storage.storage.items) c.in_ok-storage.storage.len (c.fill.ensures.len ∙ c.as_mut_slice.ensures.len) in
-    subst (λ x. Spells t (image_of h lists.extents.items lists.fetch.items lists.store.items x)) (sym same) spelled
+    subst (λ x. Spells t (value_of h lists.extents.items lists.fetch.items lists.store.items x)) (sym same) spelled

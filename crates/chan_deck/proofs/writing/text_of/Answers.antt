@@ -1,11 +1,11 @@
 use Rattle.chan_deck.proofs.Names.{replicate, ◌++◌}
-use Rattle.chan_deck.specs.PreambleImage.{image_of_preamble}
+use Rattle.chan_deck.specs.PreambleValue.{value_of_preamble}
 use Rattle.chan_deck.proofs.WriteLemmas.{length_behind, puts_behind, spelling_parts}
 use Rattle.chan_deck.proofs.writing.text_of.Goals as goal
 
 pub returns-clause-text : goal.returns-clause-text
 returns-clause-text c =
-    let it = image_of_preamble c.args.preamble.now (replicate c.args.at 0 ++ c.args.bytes.now) in
+    let it = value_of_preamble c.args.preamble.now (replicate c.args.at 0 ++ c.args.bytes.now) in
     rw (
       c.in_ok-push.ensures,
       c.in_ok-write_storage.ensures,

@@ -1,8 +1,8 @@
 use Rattle.std.proofs.Common.{◌∙◌, ◌≡◌, IfOk, ap, map, subst}
 use Rattle.chan_needs.specs.Listed.{listed, pair}
-use Rattle.chan_deck.specs.Image.{Spells}
+use Rattle.chan_deck.specs.DeckValue.{Spells}
 use Rattle.chan_deck.specs.Needs.{in_six_digits}
-use Rattle.chan_deck.specs.PartsImage.{image_of_parts}
+use Rattle.chan_deck.specs.PartsValue.{value_of_parts}
 use Rattle.chan_run.specs.Output.{extents_for}
 use Rattle.chan_run.proofs.LeastLemmas.{fetch_fits, grants_needs, six_are_areas, store_fits}
 use Rattle.chan_run.proofs.NeedLemmas.{needs_extents}
@@ -29,4 +29,4 @@ returns c =
     let fetch : c.deref-5.result.now ≡ in_six_digits n.fetch = c.deref-5.ensures.value ∙ c.in_ok-fetch.ensures ∙ ap in_six_digits c.deref-3.ensures.value in
     let store : c.deref-6.result.now ≡ in_six_digits n.store = c.deref-6.ensures.value ∙ c.in_ok-store.ensures ∙ ap in_six_digits c.deref-4.ensures.value in
     subst (λ d. IfOk c.parts_text.result (λ text. Spells text.items d))
-    (grants_needs (image_of_parts c.args.parts) n _ _ _ extents fetch store) c.parts_text.ensures
+    (grants_needs (value_of_parts c.args.parts) n _ _ _ extents fetch store) c.parts_text.ensures

@@ -10,6 +10,6 @@ returns-in_ok-add_area-in-Some-clause-bytes c =
     let ccw = c.in-Some.ccw in
     let old = c.args.ranges.now.items in
     let new = c.add_area.new.areas.items in
-    adds_areas old (data_of ccw ∷ []) new (IsSeenByte l c.args.is_so)
+    adds_areas old (data_of ccw ∷ []) new (IsSeenByte l c.args.counts)
     (subst (λ (a : Area). HaveSameBytes new (old ++ a ∷ [])) c.data_of.ensures.range c.in_ok-add_area-in-Some.ensures.bytes)
-    (seen_bytes l c.args.is_so ccw (sym c.ccw.ensures ∙ c.in-Some.is) c.if-is_so.true)
+    (seen_bytes l c.args.counts ccw (sym c.ccw.ensures ∙ c.in-Some.is) c.if-counts.true)

@@ -4,5 +4,5 @@ use Rattle.chan_why.proofs.notes.add_address.Goals as goal
 
 pub returns-in_ok-push : goal.returns-in_ok-push
 returns-in_ok-push c =
-    address_added c.args.is_so c.place.result.address c.args.look.now.place.address c.args.addresses.now.items
-    c.push.new.self.items c.if-is_so.true (ap (λ (p : Place). p.address) c.place.ensures) c.in_ok-push.ensures.items
+    address_added c.args.counts c.place.result.address c.args.look.now.place.address c.args.addresses.now.items
+    c.push.new.self.items c.if-counts.true (ap (λ (p : Place). p.address) c.place.ensures) c.in_ok-push.ensures.items

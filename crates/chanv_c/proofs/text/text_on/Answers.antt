@@ -1,6 +1,6 @@
 -- What the survey says of the job, with the verdict that is told.
 use Rattle.std.proofs.Common.{sym, subst}
-use Rattle.chan_walk.specs.declared.error.WalkError.TheVariants as walk
+use Rattle.chan_walk.specs.declared.walk_error.WalkError.TheVariants as walk
 use Rattle.chan_walk.specs.declared.verdict.Verdict.{Verdict}
 use Rattle.chan_walk.specs.Answers.{IsAnswer}
 use Rattle.chan_why.specs.Witness.{IsWitnessOf}

@@ -1,6 +1,6 @@
 use Rattle.chan_deck.proofs.Names.{Cause, IsDeckError, LineReads, List, refl, said_by, subst, ℕ, ◌+◌, ◌≡◌}
 use Rattle.chan_deck.specs.Reading.{refusal}
-use Rattle.chan_deck.specs.declared.error.DeckError.TheVariants as errors
+use Rattle.chan_deck.specs.declared.deck_error.DeckError.TheVariants as errors
 use Rattle.chan_deck.specs.declared.item.Item.{Item}
 use Rattle.chan_deck.specs.declared.item.Item.TheVariants.{Missing}
 use Rattle.chan_deck.proofs.RefusalLemmas.{takes, refuses_line, refuses_end}

@@ -1,8 +1,8 @@
 use Rattle.chan_walk.proofs.Names.{places_of_looks, refl, slice_get_read, ◌≡◌}
 use Rattle.std.proofs.Common.{Err, Result}
 use Rattle.std.proofs.lemmas.Result.{err_from_is_err_and}
-use Rattle.chan_walk.specs.declared.error.WalkError.{WalkError}
-use Rattle.chan_walk.specs.declared.error.WalkError.TheVariants.{TooManyPlaces}
+use Rattle.chan_walk.specs.declared.walk_error.WalkError.{WalkError}
+use Rattle.chan_walk.specs.declared.walk_error.WalkError.TheVariants.{TooManyPlaces}
 use Rattle.chan_walk.proofs.Algorithms.Looking.{within_places}
 use Rattle.chan_walk.proofs.Algorithms.Walking.{are_next, leads_from_look, next_overflows, place_there, skip_overflows, walked_on}
 use Rattle.chan_walk.proofs.Algorithms.Tracing.{traced_on}
