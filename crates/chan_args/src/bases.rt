@@ -55,30 +55,26 @@ fn misreading(kind: Kind, text: &str) -> Option<Misread> {
     })
 }
 
-/// How an option read a text, if it read decimal digits as another number: the text, that it is
-/// hexadecimal, and the number that it is. Otherwise it is empty.
-pub(crate) fn reading(alloc: Global, kind: Kind, text: &str) -> Result<String, AllocError> {
-    let Some(Misread { hexadecimal, .. }) = misreading(kind, text) else {
-        return Ok(String::new(alloc));
+/// Why an option of this kind doesn't accept a text. If it read decimal digits as another number,
+/// it says so; and if it would accept the number that they are in decimal, how that is written.
+pub(crate) fn why_refused(
+    alloc: Global,
+    kind: Kind,
+    text: &str,
+    why: &str,
+) -> Result<String, AllocError> {
+    let Some(misread) = misreading(kind, text) else {
+        return String::from_str(alloc, why);
     };
-    let grouped = Grouped(hexadecimal);
-    let unit = match kind {
-        Kind::Size => " bytes",
-        _ => "",
+    let (unit, verb) = match kind {
+        Kind::Size => (" bytes", "are"),
+        _ => ("", "is"),
     };
-    format!(in alloc; "{text} is hexadecimal here ({grouped}{unit}): ")
-}
-
-/// How to write the number that was meant, if the option would accept it. Otherwise it is empty.
-pub(crate) fn correction(alloc: Global, kind: Kind, text: &str) -> Result<String, AllocError> {
-    let decimal = match misreading(kind, text) {
-        Some(misread) if misread.is_accepted => misread.decimal,
-        _ => return Ok(String::new(alloc)),
-    };
-    let grouped = Grouped(decimal);
-    let verb = match kind {
-        Kind::Size => " bytes are",
-        _ => " is",
-    };
-    format!(in alloc; "; {grouped}{verb} {decimal:X}")
+    let read = Grouped(misread.hexadecimal);
+    let refused = format!(in alloc; "{text} is hexadecimal here ({read}{unit}): {why}")?;
+    if !misread.is_accepted {
+        return Ok(refused);
+    }
+    let (meant, number) = (Grouped(misread.decimal), misread.decimal);
+    format!(in alloc; "{refused}; {meant}{unit} {verb} {number:X}")
 }

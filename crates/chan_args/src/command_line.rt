@@ -2,10 +2,10 @@
 
 use crate::action::{Action, Asked};
 use crate::command_table::{ALL, AS_DECK, NAME, OF, RANGE, WIDE, command};
-use crate::image_request::{ImageRequest, OptionError, image_request};
+use crate::image_request::{ImageRequest, OptionError, for_option, image_request};
 use crate::met::{is_flagged, text_met, texts_met};
 use crate::option_text::{area_of, offence_of};
-use crate::usage_fault::{OptionFault, of_file, of_library, of_many_ccws, of_option};
+use crate::usage_fault::{of_file, of_library, of_many_ccws, of_option};
 use ccw_core::Area;
 use clap::error::ErrorKind;
 use clap::{ArgMatches, Error};
@@ -101,10 +101,8 @@ fn list_action<'a>(matches: &ArgMatches<'a>) -> Result<Action, OptionError<'a>> 
             wide: is_flagged(matches, WIDE),
         });
     };
-    match area_of(text) {
-        Ok(Area { start, len }) => Ok(Action::Range { start, len }),
-        Err(why) => Err(OptionError::Wrong(OptionFault::new(&RANGE, text, why))),
-    }
+    let Area { start, len } = for_option(&RANGE, text, area_of(text))?;
+    Ok(Action::Range { start, len })
 }
 
 /// The explanation that is asked for.
@@ -116,10 +114,8 @@ fn why_action<'a>(matches: &ArgMatches<'a>) -> Result<Action, OptionError<'a>> {
             Asked::First
         }));
     };
-    match offence_of(text) {
-        Ok(address) => Ok(Action::Why(Asked::At(address))),
-        Err(why) => Err(OptionError::Wrong(OptionFault::new(&OF, text, why))),
-    }
+    let address = for_option(&OF, text, offence_of(text))?;
+    Ok(Action::Why(Asked::At(address)))
 }
 
 /// The request to show the words that clap met as the CCW.

@@ -39,7 +39,7 @@ pub(crate) enum OptionError<'a> {
 
 /// What the text of an option says, or the error that names the option, its text and why that isn't
 /// accepted.
-fn for_option<'a, T>(
+pub(crate) fn for_option<'a, T>(
     option: &Word,
     text: &'a str,
     answer: Result<T, &'a str>,
@@ -48,7 +48,12 @@ fn for_option<'a, T>(
 {
     match answer {
         Ok(value) => Ok(value),
-        Err(why) => Err(OptionError::Wrong(OptionFault::new(option, text, why))),
+        Err(why) => Err(OptionError::Wrong(OptionFault {
+            name: option.name,
+            kind: option.kind,
+            text,
+            why,
+        })),
     }
 }
 

@@ -1,7 +1,6 @@
 //! The texts of the usage faults, in the wording of the command line's library.
 
-use crate::bases::{correction, reading};
-use crate::command_table::Word;
+use crate::bases::why_refused;
 use crate::kind::Kind;
 use crate::option_text::number_of;
 use clap::Error;
@@ -11,25 +10,12 @@ use std::alloc::{AllocError, Global};
 #[derive(Clone, Copy)]
 pub(crate) struct OptionFault<'a> {
     /// The name of the option, and what its value is.
-    name: &'a str,
-    kind: Kind,
+    pub(crate) name: &'a str,
+    pub(crate) kind: Kind,
     /// The text that was given for it.
-    text: &'a str,
+    pub(crate) text: &'a str,
     /// Why that isn't accepted.
-    why: &'a str,
-}
-
-impl<'a> OptionFault<'a> {
-    /// The fault that an option doesn't accept this text.
-    pub(crate) fn new(option: &Word, text: &'a str, why: &'a str) -> OptionFault<'a> {
-        let Word { name, kind, .. } = *option;
-        OptionFault {
-            name,
-            kind,
-            text,
-            why,
-        }
-    }
+    pub(crate) why: &'a str,
 }
 
 /// What is said if there are too many words for a CCW.
@@ -67,22 +53,11 @@ pub(crate) fn of_many_ccws(alloc: Global) -> Result<String, AllocError> {
 }
 
 /// The text that names an option, its text and why that isn't accepted.
-///
-/// If the option read decimal digits as another number in hexadecimal, the text says so; and if it
-/// would have accepted the number that they are in decimal, how that one is written.
 pub(crate) fn of_option(alloc: Global, fault: OptionFault<'_>) -> Result<String, AllocError> {
-    let OptionFault {
-        name,
-        kind,
-        text,
-        why,
-    } = fault;
-    let value = kind.value();
-    let read = reading(alloc, kind, text)?;
-    let how = correction(alloc, kind, text)?;
-    format!(in alloc;
-        "error: invalid value '{text}' for '--{name} <{value}>': {read}{why}{how}{MORE}"
-    )
+    let OptionFault { name, text, .. } = fault;
+    let value = fault.kind.value();
+    let why = why_refused(alloc, fault.kind, text, fault.why)?;
+    format!(in alloc; "error: invalid value '{text}' for '--{name} <{value}>': {why}{MORE}")
 }
 
 /// The text that the name of a file stands in place of a command.
