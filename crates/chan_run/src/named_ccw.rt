@@ -56,7 +56,9 @@ fn fault_line(alloc: Global, digits: &[u8]) -> Result<String, AllocError>
         Some(byte) => DigitsFault::NotDigit(char::from(*byte)),
         None => DigitsFault::Count(digits.len()),
     };
-    format!(in alloc; "{fault}\n")
+    let mut line = format!(in alloc; "{fault}")?;
+    line.push_str("\n")?;
+    Ok(line)
 }
 
 /// The answer to a text that spells a CCW: the line that shows it with the name of its command. The
