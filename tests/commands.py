@@ -2,8 +2,8 @@
 """The copies of the table of commands: with --write they are written, otherwise compared.
 
 The table is in crates/chan_args/src/command_table.rt, and kind.rt beside it says what the values
-of its options are. Its copies are the usage of the program there, the synopsis of the manual, and
-the commands and options of the completions.
+of its options are. Its copies are the usage of the program there; the synopsis of the manual, its
+headings and what it calls values; and the commands and options of the completions.
 """
 
 import re
@@ -67,6 +67,23 @@ def synopsis_line(line):
     return out
 
 
+def with_headings(page, table):
+    """The manual with the heading of each command, but for one that has several lines of usage."""
+    for it in table:
+        if len(it.usage) == 1:
+            heading = ".SS " + synopsis_line(it.usage[0]).removeprefix(".B chanv ")
+            page = re.sub(rf"(?m)^\.SS {it.name} .*$", lambda _, line=heading: line, page)
+    return page
+
+
+def with_values(page, table):
+    """The manual with what the value of each option is called."""
+    for name, value in {pair for it in table for pair in it.options.items() if pair[1]}:
+        value = value.replace("-", "\\\\-")
+        page = re.sub(rf"(?m)^(\.BI \\-\\-{name}\\~ )[A-Z\\-]+", rf"\g<1>{value}", page)
+    return page
+
+
 def copies():
     """Each file that has a copy, with the text that it should have."""
     table = list(commands())
@@ -74,8 +91,8 @@ def copies():
     yield TABLE, replaced(TABLE.read_text(), 'const USAGE: &str = "', '";', usage)
     lines = [synopsis_line(line) for it in table for line in it.usage]
     lines.append(".B chanv help \\fR[\\fICOMMAND\\fR]")
-    page = PAGE.read_text()
-    yield PAGE, replaced(page, ".SH SYNOPSIS\n.nf\n", ".fi\n", "".join(f"{it}\n" for it in lines))
+    page = replaced(PAGE.read_text(), ".SH SYNOPSIS\n.nf\n", ".fi\n", "\n".join([*lines, ""]))
+    yield PAGE, with_values(with_headings(page, table), table)
     block = f"    local commands='{' '.join(it.name for it in table)} help'\n    local -A options=(\n"
     for it in table:
         block += f"        [{it.name}]='{' '.join(f'--{name}' for name in it.options)}'\n"
