@@ -60,7 +60,7 @@ START = 0x800
 
 # the crates whose structs and calls are C's, and a file that copies only what the library made
 OF_C = ["chan_needs", "chanv_c"]
-WRITES_ONLY = ["writing.rt"]
+WRITES_ONLY = ["c_place.rt"]
 
 # the script where Debian's packages aren't installed
 FETCHING = """
