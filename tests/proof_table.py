@@ -13,7 +13,8 @@ laws.rt. No file of mutants is left out: each belongs to a crate and names what 
 
 No two files of specs/ define the same name, and no two public types have one name. No two modules
 of a crate import each other, directly or through others. No line is wider than a page, but for
-imports of proofs, and these name each module once.
+imports of proofs, and these name each module once. No source has a table of hexadecimal digits or
+reads or writes them one by one, which is the work of `hex`.
 """
 
 import re
@@ -37,6 +38,11 @@ IMPORT = re.compile(r"(?m)^((?:unfoldable )?(?:pub )?use \S+)\.\{")
 
 # how many columns a line may have
 WIDEST = {"src": 100, "specs": 100, "proofs": 160}
+
+# how digits would be read or written without `hex`
+OWN_DIGITS = re.compile(
+    r"0123456789[Aa]|\b7, 8, 9,|\b(?:to|from)_digit\b|b'[Ff]'|<< 4\b|>> 4\b|\* 16 \+"
+)
 
 # over any type there is no other value that it could give
 HAS_NONE = "watched::Watched::into_inner"
@@ -218,6 +224,12 @@ def check_widths(checks):
             checks.expect(f"lines of {crate}/{name} of over {most} columns", [], wide)
 
 
+def check_digits(checks):
+    for path in sorted(CRATES.glob("*/src/**/*.rt")):
+        code = re.sub(r"//.*", "", text_of(path))
+        checks.expect(f"own digits of {short(path)}", [], OWN_DIGITS.findall(code))
+
+
 def check_imports(checks):
     for crate in crates():
         proofs = [*(CRATES / crate / "proofs").rglob("*.antt")]
@@ -230,6 +242,7 @@ def check(checks, _built):
     some = with_any()
     check_names(checks)
     check_widths(checks)
+    check_digits(checks)
     check_imports(checks)
     tried = [mutant.path for crate in some for mutant in crate.mutants]
     left_out = {*MUTANTS.rglob("*.*"), *CRATES.glob("*/must-fail/*")} - {*tried}

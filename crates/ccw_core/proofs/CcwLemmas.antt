@@ -1,8 +1,10 @@
 -- The fields and the eight bytes of a channel command word are two forms of one thing.
-use Rattle.std.proofs.Common.{◌≡◌, ◌<◌, ◌+◌, ◌*◌, ◌++◌, ℕ, List, [], ◌∷◌, length, get_or, refl, sym, ap, ◌∙◌, arith}
+use Rattle.std.proofs.Common.{◌≡◌, ◌<◌, ◌+◌, ◌*◌, ◌%◌, ◌++◌, ℕ, Bool, true, false, if◌then◌else◌, IsAscii, List, [], ◌∷◌, length, get_or, refl, sym, ap, ◌∙◌, arith}
+use Rattle.std.proofs.lemmas.Str.Ascii.{IsAscii-cons, IsAscii-nil}
+use Rattle.std.specs.List.{AllByRecursion}
 use Rattle.byteorder.specs.Endian.{big_bytes}
 use Rattle.byteorder.specs.Numbers.{big_number-reads_back}
-use Rattle.ccw_core.specs.Ccw.{Fields, ccw, bytes_of}
+use Rattle.ccw_core.specs.Ccw.{Fields, ccw, bytes_of, flag_letters, is_on, letter_of}
 use Rattle.ccw_core.proofs.BigEndian.{big_bytes-two, big_bytes-three, eight}
 use Rattle.ccw_core.specs.declared.ccw.TheConstants.{STORAGE_LIMIT}
 
@@ -34,3 +36,30 @@ ccw-same s t a b same =
     let zero : get_or s a 0 ≡ get_or t b 0 = let e : a + 0 ≡ a = omega arith in let f : b + 0 ≡ b = omega arith in rw (e, f) at (same 0 (omega arith)) in
     rw (zero, same 1 (omega arith), same 2 (omega arith), same 3 (omega arith))
     (rw (same 4 (omega arith), same 5 (omega arith), same 6 (omega arith), same 7 (omega arith)) refl)
+
+-- characters each of which is ASCII
+pub small_all : (xs : List ℕ) → AllByRecursion (λ x. x < 128) xs → IsAscii xs
+small_all [] h = IsAscii-nil
+small_all (x ∷ xs) h = IsAscii-cons x xs h.0 (small_all xs h.1)
+
+-- the letters of flags are ASCII
+small_letter : (f flag letter : ℕ) → letter < 128 → letter_of f flag letter < 128
+small_letter f flag letter lt = chosen (is_on f flag) where
+  chosen : (b : Bool) → (if b then letter else 45) < 128
+  chosen true = lt
+  chosen false = omega arith
+
+pub ascii_letters : (f : ℕ) → IsAscii (flag_letters f)
+ascii_letters f =
+    let low : 48 + f % 8 < 128 = omega arith in
+    let named : (flag letter : ℕ) → letter < 128 → letter_of f flag letter < 128 = small_letter f in
+    small_all (flag_letters f) (
+      named 0x80 68 (omega arith),
+      (
+        named 0x40 67 (omega arith),
+        (
+          named 0x20 76 (omega arith),
+          (named 0x10 83 (omega arith), (named 0x08 80 (omega arith), (low, tt))),
+        ),
+      ),
+    )

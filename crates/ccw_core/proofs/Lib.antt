@@ -1,4 +1,5 @@
 pub mod BigEndian
+pub mod UpperDigits
 pub mod CcwLemmas
 pub mod GroupLemmas
 pub mod StorageLemmas

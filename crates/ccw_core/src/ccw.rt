@@ -2,15 +2,16 @@
 
 ghost use Rattle.std.specs.Prelude.{◌≡◌, ◌≤◌, ◌<◌, ◌↔◌, ◌-◌, ◌++◌, bit_and, IsTrue};
 ghost use Rattle.std.specs.Prelude.{IsSome, IsNone, IfSome, IfOk, OnOk, is_some, string_bytes};
-ghost use Rattle.ccw_core.specs.Ccw.{Fields, bytes_of, ccw, ccw_text, is_formed, is_transfer};
+ghost use Rattle.ccw_core.specs.Ccw.{Fields, bytes_of, ccw, ccw_text, is_formed, is_on};
+ghost use Rattle.ccw_core.specs.Ccw.{is_transfer};
 ghost use Rattle.ccw_core.specs.Ccw as specs;
 ghost use Rattle.ccw_core.specs.Flags.{bits_of};
 ghost use Rattle.ccw_core.specs.Group.{group_of};
 ghost use Rattle.ccw_core.specs.declared.group.Group.TheVariants.{Transfer};
 ghost use Rattle.ccw_core.specs.declared.ccw.TheConstants.{STORAGE_LIMIT};
 
-use crate::digits::push_digits;
-use crate::flags::{CcwFlags, push_flags};
+use crate::digits::{push_ascii, write_digits};
+use crate::flags::{CcwFlags, flag_letters};
 use crate::group::Group;
 use bitflags::Flags;
 use byteorder::{BigEndian, ByteOrder};
@@ -160,12 +161,19 @@ impl Ccw {
         self.command % 16 == 0b1000
     }
 
+    /// Whether a flag is on.
+    pub fn has_flag(&self, flag: CcwFlags) -> bool
+        ensures { result ≡ is_on self.now.flags (bits_of flag) }
+    {
+        CcwFlags::from_bits_retain(self.flags).intersects(flag)
+    }
+
     /// Chain data: the operation goes on with the next CCW.
     #[tactic(auto, unfolding(crate::specs::Ccw::chains_data))]
     pub fn chains_data(&self) -> bool
         ensures { result ≡ specs.chains_data self.now }
     {
-        self.flags & CcwFlags::CD.bits() != 0
+        self.has_flag(CcwFlags::CD)
     }
 
     /// Chain command, unless data is chained: the next CCW begins a new operation.
@@ -173,7 +181,7 @@ impl Ccw {
     pub fn chains_command(&self) -> bool
         ensures { result ≡ specs.chains_command self.now }
     {
-        self.flags & CcwFlags::CC.bits() != 0
+        self.has_flag(CcwFlags::CC)
     }
 
     /// The flags by name; `None` exactly if one of the three low bits is set.
@@ -191,18 +199,17 @@ impl Ccw {
     pub fn push_text(&self, out: &mut String) -> Result<(), AllocError>
         ensures { OnOk result (string_bytes out.new ≡ string_bytes out.old ++ ccw_text self.now) }
     {
-        let [code, high, middle, low, flags, spare, count_high, count_low] = self.to_bytes();
-        push_digits(out, &[code])?;
-        out.push_str(" ")?;
-        push_digits(out, &[high, middle, low])?;
-        out.push_str(" ")?;
-        push_flags(out, flags)?;
-        out.push_str(" ")?;
-        push_digits(out, &[spare])?;
-        out.push_str(" ")?;
-        push_digits(out, &[count_high, count_low])?;
-        out.push_str(" ")?;
-        out.push_str(Group::of(code).word())
+        let bytes = self.to_bytes();
+        let mut digits = [0u8; 16];
+        write_digits(&bytes, &mut digits);
+        let [a, b, c, d, e, f, g, h, _, _, i, j, k, l, m, n] = digits;
+        let [cd, cc, sli, skip, pci, low] = flag_letters(bytes[4]);
+        let text = [
+            a, b, b' ', c, d, e, f, g, h, b' ', cd, cc, sli, skip, pci, low, b' ', i, j, b' ', k,
+            l, m, n, b' ',
+        ];
+        push_ascii(out, &text)?;
+        out.push_str(Group::of(bytes[0]).word())
     }
 
     /// The CCW as text. An error means that an allocation failed.

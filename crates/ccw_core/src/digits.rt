@@ -1,46 +1,59 @@
-//! Hexadecimal digits.
+//! Hexadecimal digits in capitals, which the crate `hex` reads and writes.
 
-ghost use Rattle.std.specs.Prelude.{◌≡◌, ◌<◌, ◌++◌, [], ◌∷◌, slice_index, OnOk, string_bytes};
-ghost use Rattle.hex.specs.Hex.{encode_upper, upper_digits};
+ghost use Rattle.std.specs.Prelude.{◌≡◌, ◌*◌, ◌++◌, ℕ, List, false, length, slice_index, true};
+ghost use Rattle.std.specs.Prelude.{IsAscii, MatchBool, MatchOption, OnOk, string_bytes};
+ghost use Rattle.std.specs.Char.{is_ascii_lowercase};
+ghost use Rattle.hex.specs.Hex.{IsBytes, encode_upper};
 
 use std::alloc::AllocError;
 
-const DIGITS: [u8; 16] = *b"0123456789ABCDEF";
-
-/// The digit of a number below 16.
-fn digit_of(number: u8) -> u8
-    requires { number < 16 }
-    ensures value { result ≡ slice_index upper_digits number }
-    ensures ascii { result < 128 }
+/// Writes the digits of some bytes, two for each.
+pub fn write_digits(bytes: &[u8], digits: &mut [u8])
+    requires { length digits.old ≡ 2 * length bytes.now }
+    ensures { digits.new ≡ encode_upper bytes.now }
 {
-    DIGITS[usize::from(number)]
-}
-
-/// The two digits of a byte.
-#[tactic(auto, unfolding(hex::specs::Hex::encode_with))]
-pub fn digits_of(byte: u8) -> [u8; 2]
-    ensures { result ≡ encode_upper (byte ∷ []) }
-{
-    [digit_of(byte / 16), digit_of(byte % 16)]
-}
-
-/// Adds the digit of a number below 16 to a text.
-pub fn push_digit(out: &mut String, number: u8) -> Result<(), AllocError>
-    requires { number < 16 }
-    ensures { OnOk result (string_bytes out.new
-        ≡ string_bytes out.old ++ slice_index upper_digits number ∷ []) }
-{
-    out.push(char::from(digit_of(number)))
-}
-
-/// Adds the digits of some bytes to a text.
-pub fn push_digits(out: &mut String, bytes: &[u8]) -> Result<(), AllocError>
-    ensures { OnOk result (string_bytes out.new
-        ≡ string_bytes out.old ++ encode_upper bytes.now) }
-{
-    for byte in bytes {
-        push_digit(out, byte / 16)?;
-        push_digit(out, byte % 16)?;
+    // There is room, so that nothing is refused.
+    if hex::encode_to_slice(bytes, digits).is_ok() {
+        digits.make_ascii_uppercase();
     }
-    Ok(())
+}
+
+/// Whether a small letter is among these characters.
+#[inline(always)]
+fn has_small_letter(characters: &[u8]) -> bool
+    ensures { MatchBool result
+        ((i : ℕ) × (is_ascii_lowercase (slice_index characters.now i) ≡ true))
+        ((i : ℕ) → is_ascii_lowercase (slice_index characters.now i) ≡ false) }
+{
+    let mut found = false;
+    for character in characters {
+        found |= character.is_ascii_lowercase();
+    }
+    found
+}
+
+/// The bytes whose digits these are, if they are those of so many bytes.
+#[inline(always)]
+pub fn read_digits<const N: usize>(digits: &[u8]) -> Option<[u8; N]>
+    ensures { MatchOption result
+        ((bytes : List ℕ) → length bytes ≡ N → IsBytes bytes
+        → digits.now ≡ encode_upper bytes → ⊥)
+        (λ bytes. (length bytes ≡ N) × IsBytes bytes × (digits.now ≡ encode_upper bytes)) }
+{
+    if has_small_letter(digits) {
+        return None;
+    }
+    let mut bytes = [0u8; N];
+    match hex::decode_to_slice(digits, &mut bytes) {
+        Ok(()) => Some(bytes),
+        Err(_) => None,
+    }
+}
+
+/// Adds characters of ASCII to a text.
+pub fn push_ascii(out: &mut String, characters: &[u8]) -> Result<(), AllocError>
+    requires { IsAscii characters.now }
+    ensures { OnOk result (string_bytes out.new ≡ string_bytes out.old ++ characters.now) }
+{
+    out.push_str(str::from_utf8(characters).unwrap_or(""))
 }

@@ -1,12 +1,10 @@
 //! The flags of a channel command word, by name and as the text shows them.
 
-ghost use Rattle.std.specs.Prelude.{⊤, ◌≡◌, ◌<◌, ◌++◌, [], ◌∷◌, codes, OnOk, string_bytes};
+ghost use Rattle.std.specs.Prelude.{⊤, ◌≡◌, [], ◌∷◌, codes};
 ghost use Rattle.ccw_core.specs.Ccw.{flag_letters, letter_of};
 ghost use Rattle.ccw_core.specs.Flags.{bits_of};
 
-use crate::digits::push_digit;
 use bitflags::{Flag, Flags, bitflag_items};
-use std::alloc::AllocError;
 
 /// The named flags of a channel command word.
 ///
@@ -48,22 +46,39 @@ impl Flags for CcwFlags {
     }
 }
 
-fn letter(flags: u8, flag: CcwFlags, letter: char) -> char
-    requires { letter < 128 }
-    ensures value { result ≡ letter_of flags (bits_of flag) letter }
-    ensures ascii { result < 128 }
+/// The letter of each flag, in the order in which a text shows them.
+pub const FLAG_LETTERS: [(CcwFlags, u8); 5] = [
+    (CcwFlags::CD, b'D'),
+    (CcwFlags::CC, b'C'),
+    (CcwFlags::SLI, b'L'),
+    (CcwFlags::SKIP, b'S'),
+    (CcwFlags::PCI, b'P'),
+];
+
+/// A flag's letter where it is on, and else a dash.
+fn letter(flags: u8, named: (CcwFlags, u8)) -> u8
+    ensures { result ≡ letter_of flags (bits_of named.0) named.1 }
 {
-    if flags & flag.0 == 0 { '-' } else { letter }
+    let (flag, letter) = named;
+    if CcwFlags::from_bits_retain(flags).intersects(flag) {
+        letter
+    } else {
+        b'-'
+    }
 }
 
-/// Adds a flag byte to a text: the named flags by letter, the three low bits as a digit.
-pub(crate) fn push_flags(out: &mut String, flags: u8) -> Result<(), AllocError>
-    ensures { OnOk result (string_bytes out.new ≡ string_bytes out.old ++ flag_letters flags) }
+/// A flag byte as text: the named flags by letter, the three low bits as a digit.
+pub(crate) fn flag_letters(flags: u8) -> [u8; 6]
+    ensures { result ≡ flag_letters flags }
 {
-    out.push(letter(flags, CcwFlags::CD, 'D'))?;
-    out.push(letter(flags, CcwFlags::CC, 'C'))?;
-    out.push(letter(flags, CcwFlags::SLI, 'L'))?;
-    out.push(letter(flags, CcwFlags::SKIP, 'S'))?;
-    out.push(letter(flags, CcwFlags::PCI, 'P'))?;
-    push_digit(out, flags % 8)
+    let [cd, cc, sli, skip, pci] = FLAG_LETTERS;
+    let (cd, cc, sli) = (letter(flags, cd), letter(flags, cc), letter(flags, sli));
+    [
+        cd,
+        cc,
+        sli,
+        letter(flags, skip),
+        letter(flags, pci),
+        b'0' + flags % 8,
+    ]
 }

@@ -20,8 +20,8 @@ mod watched;
 
 pub use crate::areas::{Area, covers, gap_among};
 pub use crate::ccw::{Ccw, STORAGE_LIMIT};
-pub use crate::digits::{digits_of, push_digit, push_digits};
-pub use crate::flags::CcwFlags;
+pub use crate::digits::{push_ascii, read_digits, write_digits};
+pub use crate::flags::{CcwFlags, FLAG_LETTERS};
 pub use crate::group::Group;
 pub use crate::storage::{Storage, TooLarge};
 pub use crate::watched::{DeviceFault, Watched, write_out};

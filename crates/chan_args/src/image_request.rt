@@ -15,6 +15,7 @@ use ccw_core::Area;
 use ckd_core::{Extents, LAST_CYLINDER};
 use clap::ArgMatches;
 use std::alloc::{AllocError, Global};
+use thiserror::Error;
 
 /// What is done with images, and how.
 #[derive(Drop)]
@@ -29,11 +30,13 @@ pub struct ImageRequest {
 }
 
 /// Why options weren't read.
-#[derive(Clone, Copy)]
+#[derive(Clone, Copy, Debug, Error)]
 pub(crate) enum OptionError<'a> {
     /// This option is the first whose text isn't accepted.
+    #[error("{0}")]
     Wrong(OptionFault<'a>),
     /// An allocation was refused.
+    #[error("out of memory")]
     Memory,
 }
 

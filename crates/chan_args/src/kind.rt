@@ -1,7 +1,7 @@
 //! The kinds of words, with all that is said of the value of an option of each kind.
 
 /// What a word of a command is or, for an option with a value, what the value is.
-#[derive(Clone, Copy)]
+#[derive(Clone, Copy, Debug)]
 pub(crate) enum Kind {
     /// A word by itself.
     Operand,

@@ -3,11 +3,12 @@
 use crate::bases::why_refused;
 use crate::kind::Kind;
 use crate::option_text::number_of;
-use clap::Error;
 use std::alloc::{AllocError, Global};
+use thiserror::Error;
 
 /// An option whose text isn't accepted, with that text and why.
-#[derive(Clone, Copy)]
+#[derive(Clone, Copy, Debug, Error)]
+#[error("invalid value '{text}' for '--{name} <{value}>'", value = .kind.value())]
 pub(crate) struct OptionFault<'a> {
     /// The name of the option, and what its value is.
     pub(crate) name: &'a str,
@@ -54,10 +55,8 @@ pub(crate) fn of_many_ccws(alloc: Global) -> Result<String, AllocError> {
 
 /// The text that names an option, its text and why that isn't accepted.
 pub(crate) fn of_option(alloc: Global, fault: OptionFault<'_>) -> Result<String, AllocError> {
-    let OptionFault { name, text, .. } = fault;
-    let value = fault.kind.value();
-    let why = why_refused(alloc, fault.kind, text, fault.why)?;
-    format!(in alloc; "error: invalid value '{text}' for '--{name} <{value}>': {why}{MORE}")
+    let why = why_refused(alloc, fault.kind, fault.text, fault.why)?;
+    format!(in alloc; "error: {fault}: {why}{MORE}")
 }
 
 /// The text that the name of a file stands in place of a command.
@@ -73,7 +72,7 @@ pub(crate) fn of_file(alloc: Global, name: &str) -> Result<String, AllocError> {
 pub(crate) fn of_library(
     alloc: Global,
     words: &[String],
-    error: &Error,
+    error: &clap::Error,
 ) -> Result<String, AllocError> {
     let text = error.to_string(alloc)?;
     if let Some(word) = taken_for_file(words, text.as_str()) {

@@ -1,30 +1,35 @@
--- Bytes, and addresses of seven digits, digit by digit and byte by byte.
-use Rattle.chan_deck.proofs.Names.{[], address_text, ap, arith, bytes_high_first, encode_upper, encode_with, get_or, le-ltb, List, lt-ltb, refl, size_digits, slice_index, STORAGE_LIMIT, sym, to_be_bytes, upper_digits, w32, ℕ, ◌%◌, ◌++◌, ◌/◌, ◌<◌, ◌^◌, ◌∙◌, ◌∷◌, ◌≡◌, ◌≤◌}
+-- Addresses of six, seven and eight digits: the last digits of four bytes.
+use Rattle.chan_deck.proofs.Names.{address_text, drop, encode_upper, encode_with, le-ltb, List, lt-ltb, refl, STORAGE_LIMIT, take, to_be_bytes, w32, zero, suc, [], ◌∷◌, arith, ℕ, ◌<◌, ◌^◌, ◌≡◌, ◌≤◌}
+use Rattle.std.proofs.Common.{IsAscii}
 
-first_digit : (n : ℕ) → n < 2 ^ 28 → size_digits n ≡ slice_index upper_digits (n / 16777216) ∷ encode_upper (bytes_high_first 3 n)
+-- the eight digits of a number
+abbrev pub eight_digits : ℕ → List ℕ
+eight_digits n = encode_upper (to_be_bytes w32 n)
+
+pub six_last : (n : ℕ) → n < STORAGE_LIMIT → take 6 (drop 2 (eight_digits n)) ≡ address_text n
 unfolding encode_with
-first_digit n lt =
-    let first : n / 16777216 % 256 % 16 ≡ n / 16777216 = omega arith in
-    ap (λ k. slice_index upper_digits k ∷ encode_upper (bytes_high_first 3 n)) first
+six_last n lt = rw (lt-ltb n STORAGE_LIMIT lt) refl
 
-seven_digits : (n : ℕ) → STORAGE_LIMIT ≤ n → n < 2 ^ 28 → address_text n ≡ slice_index upper_digits (n / 16777216) ∷ encode_upper (bytes_high_first 3 n)
-seven_digits n low high = rw (le-ltb n STORAGE_LIMIT low, lt-ltb n (2 ^ 28) high) (first_digit n high)
-
--- the last six digits of four bytes
-abbrev last_six : List ℕ → List ℕ
-last_six bytes = encode_upper (get_or bytes 1 0 ∷ []) ++ (encode_upper (get_or bytes 2 0 ∷ []) ++ encode_upper (get_or bytes 3 0 ∷ []))
-
-last_digits : (n : ℕ) → last_six (to_be_bytes w32 n) ≡ encode_upper (bytes_high_first 3 n)
+pub seven_last : (n : ℕ) → STORAGE_LIMIT ≤ n → n < 2 ^ 28 → take 7 (drop 1 (eight_digits n)) ≡ address_text n
 unfolding encode_with
-last_digits n = refl
+seven_last n low high = rw (le-ltb n STORAGE_LIMIT low, lt-ltb n (2 ^ 28) high) refl
 
--- an address whose first byte has one digit
-pub seven_told : (n : ℕ) (bytes : List ℕ) (k : ℕ) → bytes ≡ to_be_bytes w32 n → n < 2 ^ 32
-    → (0 < get_or bytes 0 0) × (get_or bytes 0 0 < 16) → k ≡ get_or bytes 0 0
-    → slice_index upper_digits k ∷ last_six bytes ≡ address_text n
-seven_told n bytes k e lt some h =
-    let first : get_or bytes 0 0 ≡ n / 16777216 % 256 = ap (λ b. get_or b 0 0) e in
-    let digit : k ≡ n / 16777216 = omega (arith, h, first) in
-    ap (λ j. slice_index upper_digits j ∷ last_six bytes) digit
-    ∙ ap (λ t. slice_index upper_digits (n / 16777216) ∷ t) (ap last_six e ∙ last_digits n)
-    ∙ sym (seven_digits n (omega (arith, some.0, first)) (omega (arith, some.1, first)))
+pub all_eight : (n : ℕ) → 2 ^ 28 ≤ n → eight_digits n ≡ address_text n
+all_eight n low =
+    let above : STORAGE_LIMIT ≤ n = omega (arith, low) in
+    rw (le-ltb n STORAGE_LIMIT above, le-ltb n (2 ^ 28) low) refl
+
+-- a part of characters of ASCII
+ascii_front : (k : ℕ) (xs : List ℕ) → IsAscii xs → IsAscii (take k xs)
+ascii_front zero xs h i = omega arith
+ascii_front (suc k) [] h i = omega arith
+ascii_front (suc k) (x ∷ xs) h zero = h 0
+ascii_front (suc k) (x ∷ xs) h (suc i) = ascii_front k xs (λ j. h (suc j)) i
+
+ascii_rest : (n : ℕ) (xs : List ℕ) → IsAscii xs → IsAscii (drop n xs)
+ascii_rest zero xs h i = h i
+ascii_rest (suc n) [] h i = omega arith
+ascii_rest (suc n) (x ∷ xs) h i = ascii_rest n xs (λ j. h (suc j)) i
+
+pub ascii_part : (k n : ℕ) (xs : List ℕ) → IsAscii xs → IsAscii (take k (drop n xs))
+ascii_part k n xs h = ascii_front k (drop n xs) (ascii_rest n xs h)

@@ -1,11 +1,11 @@
 -- Numbers of three, four and eight bytes.
-use Rattle.chan_deck.proofs.Names.{[], AllByRecursion, ap, arith, bytes_high_first, drop, encode_upper, from_be_bytes, get_or, IsByte, length, List, refl, size_digits, STORAGE_LIMIT, sym, w32, ℕ, ◌%◌, ◌/◌, ◌<◌, ◌^◌, ◌∙◌, ◌∷◌, ◌≡◌}
+use Rattle.chan_deck.proofs.Names.{[], AllByRecursion, ap, arith, bytes_high_first, drop, encode_upper, from_be_bytes, get_or, IsByte, length, List, refl, size_digits, STORAGE_LIMIT, sym, w32, ℕ, ◌%◌, ◌*◌, ◌+◌, ◌/◌, ◌<◌, ◌^◌, ◌∙◌, ◌∷◌, ◌≡◌}
 use Rattle.std.proofs.lemmas.Nat.{be_bytes_4}
 use Rattle.chan_deck.proofs.UpperDigits.{leading_zero}
 
 -- an address has the three bytes that it was made of
 pub address_bytes : (b : List ℕ) (n : ℕ) → length b ≡ 3 → ((i : ℕ) → get_or b i 0 < 256)
-    → n ≡ from_be_bytes w32 (0 ∷ get_or b 0 0 ∷ get_or b 1 0 ∷ get_or b 2 0 ∷ [])
+    → n ≡ get_or b 0 0 * 65536 + get_or b 1 0 * 256 + get_or b 2 0
     → (n < STORAGE_LIMIT) × (bytes_high_first 3 n ≡ b)
 address_bytes [] n len fits e = absurd (omega arith)
 address_bytes (x ∷ []) n len fits e = absurd (omega arith)

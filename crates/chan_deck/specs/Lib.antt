@@ -1,4 +1,3 @@
-pub mod Digits
 pub mod Item
 pub mod DeckValue
 pub mod Refused

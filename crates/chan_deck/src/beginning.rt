@@ -89,7 +89,7 @@ fn text_note(image: &[u8]) -> &'static str {
     let (mut digits, mut colons) = (false, false);
     for byte in image {
         match byte {
-            b'0'..=b'9' | b'a'..=b'f' | b'A'..=b'F' => digits = true,
+            _ if byte.is_ascii_hexdigit() => digits = true,
             b':' => colons = true,
             b' ' | b'\n' | b'\r' | b'\t' => {}
             _ if colons && byte.is_ascii_graphic() => {}

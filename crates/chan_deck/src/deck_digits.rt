@@ -1,11 +1,11 @@
 //! Writing the digits of a deck.
 
 ghost use Rattle.std.specs.Prelude.{◌≡◌, ◌<◌};
-ghost use Rattle.std.specs.Int.{w64, to_be_bytes};
+ghost use Rattle.std.specs.Int.{w32, w64, to_be_bytes};
 ghost use Rattle.hex.specs.Hex.{encode_upper};
 ghost use Rattle.chan_deck.specs.Item as item;
 
-use ccw_core::{Area, digits_of};
+use ccw_core::{Area, write_digits};
 
 /// The three digits of a cylinder.
 pub(crate) fn cylinder_digits(cylinder: u16) -> [u8; 3]
@@ -31,13 +31,30 @@ pub(crate) fn limit_digits(places: u32) -> [u8; 5]
     [ten_thousands, thousands, hundreds, tens, ones]
 }
 
+/// The two digits of a byte.
+pub(crate) fn byte_digits(byte: u8) -> [u8; 2]
+    ensures { result ≡ item.byte_digits byte }
+{
+    let mut digits = [0u8; 2];
+    write_digits(&[byte], &mut digits);
+    digits
+}
+
+/// The eight digits of a number.
+pub(crate) fn number_digits(number: u32) -> [u8; 8]
+    ensures { result ≡ encode_upper (to_be_bytes w32 number) }
+{
+    let mut digits = [0u8; 8];
+    write_digits(&number.to_be_bytes(), &mut digits);
+    digits
+}
+
 /// The six digits of an address.
 #[tactic(auto, unfolding(hex::specs::Hex::encode_with))]
 pub(crate) fn address_digits(address: u32) -> [u8; 6]
     ensures { result ≡ item.address_digits address }
 {
-    let [_, high, middle, low] = address.to_be_bytes();
-    let ([a, b], [c, d], [e, f]) = (digits_of(high), digits_of(middle), digits_of(low));
+    let [_, _, a, b, c, d, e, f] = number_digits(address);
     [a, b, c, d, e, f]
 }
 
@@ -46,8 +63,7 @@ pub(crate) fn address_digits(address: u32) -> [u8; 6]
 pub(crate) fn size_digits(size: u32) -> [u8; 7]
     ensures { result ≡ item.size_digits size }
 {
-    let [first, _, _, _] = size.to_be_bytes();
-    let ([_, a], [b, c, d, e, f, g]) = (digits_of(first), address_digits(size));
+    let [_, a, b, c, d, e, f, g] = number_digits(size);
     [a, b, c, d, e, f, g]
 }
 
@@ -61,26 +77,11 @@ pub(crate) fn area_digits(area: Area) -> [u8; 13]
     [a, b, c, d, e, f, b' ', g, h, i, j, k, l]
 }
 
-/// The eight digits of four bytes.
-#[tactic(auto, unfolding(hex::specs::Hex::encode_with))]
-fn half_digits(bytes: [u8; 4]) -> [u8; 8]
-    ensures { result ≡ encode_upper bytes }
-{
-    let [first, second, third, fourth] = bytes;
-    let ([a, b], [c, d]) = (digits_of(first), digits_of(second));
-    let ([e, f], [g, h]) = (digits_of(third), digits_of(fourth));
-    [a, b, c, d, e, f, g, h]
-}
-
 /// The sixteen digits of eight bytes, as the number that has them.
-#[tactic(auto, unfolding(hex::specs::Hex::encode_with))]
 pub(crate) fn word_digits(word: u64) -> [u8; 16]
     ensures { result ≡ encode_upper (to_be_bytes w64 word) }
 {
-    let [a, b, c, d, e, f, g, h] = word.to_be_bytes();
-    let high = half_digits([a, b, c, d]);
-    let low = half_digits([e, f, g, h]);
-    let [a, b, c, d, e, f, g, h] = high;
-    let [i, j, k, l, m, n, o, p] = low;
-    [a, b, c, d, e, f, g, h, i, j, k, l, m, n, o, p]
+    let mut digits = [0u8; 16];
+    write_digits(&word.to_be_bytes(), &mut digits);
+    digits
 }

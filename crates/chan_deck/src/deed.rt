@@ -1,6 +1,6 @@
 //! What a CCW does, in words for the wide listing and the picture. Tests hold it.
 
-use bitflags::Flags;
+use byteorder::{BigEndian, ByteOrder};
 use ccw_core::{Area, Ccw, CcwFlags, Storage};
 use chan_areas::Merged;
 use chan_walk::{Direction, Job, Look, Setting, data_moved, data_of, setting_at};
@@ -77,8 +77,11 @@ impl<'a> Shown<'a> {
 /// Adds a track in parentheses, and the number of a record if the data has one.
 fn push_record(out: &mut String, storage: &Storage, data: Area) -> Result<(), AllocError> {
     let byte = |number: u32| storage.byte_at(data.start.saturating_add(number));
-    let cylinder = u16::from_be_bytes([byte(0), byte(1)]);
-    let head = u16::from_be_bytes([byte(2), byte(3)]);
+    let bytes = [byte(0), byte(1), byte(2), byte(3)];
+    let (cylinder, head) = (
+        BigEndian::read_u16(&bytes),
+        BigEndian::read_u16(&bytes[2..]),
+    );
     write!(out, " (cylinder {cylinder}, head {head}")?;
     if data.len > 4 {
         let record = byte(4);
@@ -124,10 +127,11 @@ pub(crate) fn push_amount(out: &mut String, ccw: Ccw) -> Result<(), AllocError> 
 
 /// Adds the flags of a CCW that change what is reported of it: SLI and PCI.
 pub(crate) fn push_reported(out: &mut String, look: &Look) -> Result<(), AllocError> {
-    let ccw = look.ccw().filter(|ccw| !ccw.is_transfer());
-    let flags = ccw.map_or(0, |ccw| ccw.flags());
+    let Some(ccw) = look.ccw().filter(|ccw| !ccw.is_transfer()) else {
+        return Ok(());
+    };
     for (flag, name) in [(CcwFlags::SLI, "SLI"), (CcwFlags::PCI, "PCI")] {
-        if flags & flag.bits() != 0 {
+        if ccw.has_flag(flag) {
             push_part(out, name)?;
         }
     }

@@ -8,6 +8,7 @@ use ccw_core::{Area, STORAGE_LIMIT};
 use std::alloc::{AllocError, Global};
 use std::fmt::Write as _;
 use std::str;
+use thiserror::Error;
 
 const LINE: &str = "no address, no repeat and no comment";
 
@@ -53,11 +54,13 @@ pub struct Dump {
 }
 
 /// Why a dump gives no image.
-#[derive(Drop)]
+#[derive(Debug, Drop, Error)]
 pub enum DumpError {
     /// This is said of the first line that can't be read.
+    #[error("{0}")]
     Refused(String),
     /// An allocation failed.
+    #[error("out of memory")]
     Memory,
 }
 

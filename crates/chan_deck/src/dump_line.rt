@@ -1,6 +1,6 @@
 //! A line of a dump of storage as text: an address, and the bytes from there on.
 
-use crate::numbers::value_of;
+use crate::numbers::spelled_byte;
 use ccw_core::STORAGE_LIMIT;
 use std::alloc::AllocError;
 use std::str;
@@ -127,28 +127,30 @@ impl Front<'_> {
     /// Reads the bytes of the line in place of those of the list.
     pub(crate) fn read_bytes(&self, line: &[u8], bytes: &mut Vec<Spelled>) -> Result<(), Fault> {
         bytes.truncate(0);
-        let mut high = None;
-        for column in self.from..self.until.min(line.len()) {
-            match (value_of(line[column].to_ascii_uppercase()), high) {
-                (Some(_), None) if self.is_apart(column, bytes.last()) => {
+        let until = self.until.min(line.len());
+        // Behind the last byte.
+        let mut next = self.from;
+        for column in self.from..until {
+            if column < next {
+                continue;
+            }
+            if line[column].is_ascii_hexdigit() {
+                if self.is_apart(column, bytes.last()) {
                     return Err(Fault::At(APART, column));
                 }
-                (Some(digit), None) => high = Some(digit),
-                (Some(digit), Some(first)) => {
-                    let (byte, column) = (first << 4 | digit, column.saturating_sub(1));
-                    bytes.extend_from_slice(&[Spelled { byte, column }])?;
-                    high = None;
-                }
-                (None, Some(_)) => return Err(Fault::At(HALF, column.saturating_sub(1))),
-                (None, None) if ends_at(line, column, bytes.as_slice()) => return Ok(()),
-                (None, None) if line[column].is_ascii_whitespace() => {}
-                (None, None) => return Err(Fault::At(DIGIT, column)),
+                next = column.saturating_add(2);
+                let digits = line[..until].get(column..next);
+                let byte = digits
+                    .and_then(spelled_byte)
+                    .ok_or(Fault::At(HALF, column))?;
+                bytes.extend_from_slice(&[Spelled { byte, column }])?;
+            } else if ends_at(line, column, bytes.as_slice()) {
+                return Ok(());
+            } else if !line[column].is_ascii_whitespace() {
+                return Err(Fault::At(DIGIT, column));
             }
         }
-        match high {
-            Some(_) => Err(Fault::At(HALF, self.until.saturating_sub(1))),
-            None => Ok(()),
-        }
+        Ok(())
     }
 
     /// Whether too many blanks come before a byte at a column, after the last byte or the address.

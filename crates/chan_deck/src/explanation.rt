@@ -9,9 +9,10 @@ ghost use Rattle.chan_walk.specs.Offence.{first_verdict};
 ghost use Rattle.chan_why.specs.Findings.{AreFindings};
 
 use crate::because::push_evidence;
+use crate::deck_digits::byte_digits;
 use crate::listing::{push_words, standing_at};
 use crate::verdict_line::verdict_text;
-use ccw_core::push_digits;
+use ccw_core::push_ascii;
 use chan_walk::{Evidence, Job, Offence, Place, Setting, Survey, Verdict, setting_at};
 use chan_why::{Findings, Witness};
 use ckd_core::Track;
@@ -30,7 +31,7 @@ pub(crate) fn push_setting(out: &mut String, setting: Option<Setting>) -> Result
         }
         Some(Setting::Mask(byte)) => {
             out.push_str(" (mask ")?;
-            push_digits(out, &[byte])?;
+            push_ascii(out, &byte_digits(byte))?;
             out.push_str(")")
         }
     }

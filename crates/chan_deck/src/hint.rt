@@ -323,7 +323,7 @@ pub(crate) fn push_caret_at(
 fn fitting_one(pattern: &[u8], line: &[u8]) -> usize {
     for at in 0..line.len() {
         let fits = match pattern.get(at) {
-            Some(b'X') => matches!(line[at], b'0'..=b'9' | b'A'..=b'F'),
+            Some(b'X') => line[at].is_ascii_hexdigit() && !line[at].is_ascii_lowercase(),
             Some(b'N') => line[at].is_ascii_digit(),
             Some(letter) => line[at] == *letter,
             None => false,

@@ -9,11 +9,12 @@ ghost use Rattle.chan_deck.specs.Item as item;
 ghost use Rattle.chan_deck.specs.declared.version.VersionNumber.{VersionNumber};
 
 use crate::deck_digits::{
-    address_digits, area_digits, cylinder_digits, limit_digits, size_digits, word_digits,
+    address_digits, area_digits, byte_digits, cylinder_digits, limit_digits, size_digits,
+    word_digits,
 };
 use crate::numbers::{address_of, byte_of, cylinder_of, places_of, size_of, word_of};
 use crate::version::VersionNumber;
-use ccw_core::{Area, digits_of};
+use ccw_core::Area;
 use ckd_core::Device;
 use std::alloc::AllocError;
 
@@ -259,7 +260,7 @@ impl Item {
             Item::Device(Device::D2314) => out.extend_from_slice(b"device 2314"),
             Item::Mask(mask) => {
                 out.extend_from_slice(b"mask ")?;
-                out.extend_from_slice(&digits_of(mask))
+                out.extend_from_slice(&byte_digits(mask))
             }
             Item::Start(address) => {
                 out.extend_from_slice(b"start ")?;

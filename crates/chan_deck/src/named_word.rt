@@ -1,10 +1,10 @@
 //! What is said of a word that is a command code, as `07`, the name of a further code, as
 //! `restore`, a file mask, as `mask 98`, or flags, as `-CL--0`.
 
+use crate::numbers::spelled_byte;
 use crate::words::word_row;
-use ccw_core::Ccw;
+use ccw_core::{Ccw, FLAG_LETTERS};
 use ckd_core::{Command, FileMask, further_name, lookup};
-use hex::FromHex;
 use std::alloc::{AllocError, Global};
 use std::fmt::Write as _;
 
@@ -19,13 +19,13 @@ const MASKS: [(u8, &'static str, &'static str); 6] = [
     (0x80, "C0", "80"),
 ];
 
-/// The letter of each flag, and what is said of the flag.
-const FLAGS: [(u8, &'static str); 5] = [
-    (b'D', "D chain data"),
-    (b'C', "C chain command"),
-    (b'L', "L suppress length indication"),
-    (b'S', "S skip"),
-    (b'P', "P program-controlled interruption"),
+/// What is said of each flag behind its letter.
+const FLAGS: [&'static str; 5] = [
+    "chain data",
+    "chain command",
+    "suppress length indication",
+    "skip",
+    "program-controlled interruption",
 ];
 
 /// The line on a word, if it is a command code, the name of a further code, a file mask or flags.
@@ -33,7 +33,7 @@ const FLAGS: [(u8, &'static str); 5] = [
 /// allocation failed.
 pub fn spelled_text(alloc: Global, word: &str) -> Result<Option<String>, AllocError> {
     if let Some((first, digits)) = word.split_once(" ") {
-        return match spelled_byte(digits) {
+        return match spelled_byte(digits.as_bytes()) {
             Some(byte) if first.eq_ignore_ascii_case("mask") => Ok(Some(mask_text(alloc, byte)?)),
             _ => Ok(None),
         };
@@ -50,13 +50,7 @@ fn spelled_code(word: &str) -> Option<u8> {
     let named = codes.find(|code| {
         further_name(*code).is_some_and(|name| name.eq_ignore_ascii_case(word))
     });
-    named.or(spelled_byte(word))
-}
-
-/// The byte that two hexadecimal digits of either case spell.
-fn spelled_byte(digits: &str) -> Option<u8> {
-    let bytes = <[u8; 1]>::from_hex(digits.as_bytes()).ok()?;
-    Some(bytes[0])
+    named.or(spelled_byte(word.as_bytes()))
 }
 
 /// The line on a command code: its group, the name of the command, what it does, and the masks that
@@ -171,14 +165,15 @@ fn flags_text(alloc: Global, word: &str) -> Result<Option<String>, AllocError> {
     let mut out = String::from_str(alloc, word)?;
     let mut mark = ": ";
     for at in 0..5 {
-        let (letter, name) = FLAGS[at];
         if bytes[at] == b'-' {
             continue;
         }
+        let ((_, letter), name) = (FLAG_LETTERS[at], FLAGS[at]);
         if bytes[at] != letter {
             return Ok(None);
         }
-        write!(out, "{mark}{name}")?;
+        let letter = char::from(letter);
+        write!(out, "{mark}{letter} {name}")?;
         mark = "; ";
     }
     if bytes[5] != b'0' {

@@ -3,7 +3,8 @@
 ghost use Rattle.std.specs.Prelude.{◌≡◌, ◌++◌, IfOk, OnOk, string_bytes};
 ghost use Rattle.chan_deck.specs.VerdictLine as text;
 
-use ccw_core::{Area, push_digit, push_digits};
+use crate::deck_digits::number_digits;
+use ccw_core::{Area, STORAGE_LIMIT, push_ascii};
 use chan_walk::Verdict;
 use std::alloc::{AllocError, Global};
 use std::fmt;
@@ -23,20 +24,19 @@ impl fmt::Display for Range {
     }
 }
 
-/// Adds an address to a text.
+/// Adds an address to a text, in six digits, or as many as it needs.
 pub(crate) fn push_address(out: &mut String, address: u32) -> Result<(), AllocError>
     ensures { OnOk result (string_bytes out.new
         ≡ string_bytes out.old ++ text.address_text address) }
 {
-    let [first, high, middle, low] = address.to_be_bytes();
-    if first >= 16 {
-        return push_digits(out, &[first, high, middle, low]);
+    let digits = number_digits(address);
+    if address < STORAGE_LIMIT {
+        push_ascii(out, &digits[2..])
+    } else if address < 1 << 28 {
+        push_ascii(out, &digits[1..])
+    } else {
+        push_ascii(out, &digits)
     }
-    if first > 0 {
-        push_digit(out, first)?;
-        return push_digits(out, &[high, middle, low]);
-    }
-    push_digits(out, &[high, middle, low])
 }
 
 /// Adds a verdict to a text: `yes`, or `no`, the address and the reason's word.

@@ -16,6 +16,7 @@ ghost use Rattle.ccw_core.specs.declared.ccw.TheConstants.{STORAGE_LIMIT};
 use crate::deck::Deck;
 use crate::item::Item;
 use crate::version::Version;
+use byteorder::{BigEndian, ByteOrder};
 use ccw_core::Area;
 use ckd_core::{Device, Extents, FileMask};
 use std::alloc::{AllocError, Global};
@@ -72,9 +73,7 @@ fn doubleword_number(word: &[u8]) -> u64
     requires { length word.now ≡ 8 }
     ensures { to_be_bytes w64 result ≡ word.now }
 {
-    u64::from_be_bytes([
-        word[0], word[1], word[2], word[3], word[4], word[5], word[6], word[7],
-    ])
+    BigEndian::read_u64(word)
 }
 
 /// A put for a doubleword, if it isn't zero.

@@ -16,6 +16,7 @@ ghost use Rattle.chan_walk.specs.declared.verdict.Verdict.TheVariants.{Yes};
 
 use crate::layout::{Extent, NeedLists};
 use crate::needed_mask::needed_mask;
+use byteorder::{BigEndian, ByteOrder};
 use ccw_core::Area;
 use chan_areas::Merged;
 use chan_walk::{Direction, Job, Look, Survey, data_moved, guarded_areas};
@@ -117,7 +118,7 @@ fn cylinder(look: &Look) -> Option<u16>
     match look.command()?.class() {
         MaskClass::Seek | MaskClass::SeekCylinder | MaskClass::SeekHead => {
             let argument = look.operand().whole()?.bytes;
-            Some(u16::from_be_bytes([argument[2], argument[3]]))
+            Some(BigEndian::read_u16(&argument[2..]))
         }
         MaskClass::Recalibrate => Some(0),
         _ => None,

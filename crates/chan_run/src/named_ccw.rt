@@ -9,6 +9,8 @@ use crate::failure::Failure;
 use crate::one_ccw::{ShowError, shown_line};
 use crate::outcome::Outcome;
 use crate::response::Response;
+use bitflags::Flags;
+use ccw_core::FLAG_LETTERS;
 use hex::encode_upper;
 use std::alloc::{AllocError, Global};
 use thiserror::Error;
@@ -97,9 +99,10 @@ fn digits_shown(alloc: Global, line: &[u8]) -> Result<Option<Vec<u8>>, AllocErro
         return Ok(None);
     }
     let mut flags = line[15] - b'0';
-    for (at, bit) in [(10, 0x80), (11, 0x40), (12, 0x20), (13, 0x10), (14, 0x08)] {
-        if line[at] != b'-' {
-            flags |= bit;
+    for at in 0..FLAG_LETTERS.len() {
+        let (flag, _) = FLAG_LETTERS[at];
+        if line[10 + at] != b'-' {
+            flags |= flag.bits();
         }
     }
     let mut digits = Vec::new(alloc);

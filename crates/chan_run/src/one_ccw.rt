@@ -29,28 +29,23 @@ pub enum ShowError {
 }
 
 /// Writes the line that shows the CCW spelled by sixteen hexadecimal digits of either case: its
-/// text, the name of its command, if that is wanted, and a line feed.
+/// text and a line feed.
 ///
 /// `NotCcw` comes exactly if the text isn't that, and `Write` exactly if a write failed. Nothing
 /// was written after `NotCcw` and `Memory`, and a prefix of the line after `Write`.
-pub fn show<W: Write>(
-    alloc: Global,
-    text: &[u8],
-    is_named: bool,
-    to: &mut Watched<W>,
-) -> Result<(), ShowError>
+pub fn show<W: Write>(alloc: Global, text: &str, to: &mut Watched<W>) -> Result<(), ShowError>
     requires { to.old.failed ≡ false }
     ensures spelled { OnOk result (SpellsCcw text.now) }
     ensures shown { OnOk result (Appends (W.contents to.old.device) (W.contents to.new.device)
-        (shown_line is_named text.now)) }
+        (shown_line false text.now)) }
     ensures not_ccw { IsErrOf result ShowError.NotCcw ↔ ¬ SpellsCcw text.now }
     ensures early { (result ≡ Err ShowError.NotCcw) ⊎ (result ≡ Err ShowError.Memory) → to.new
         ≡ to.old }
     ensures write { IsErrOf result ShowError.Write ↔ (to.new.failed ≡ true) }
     ensures prefix { IsErrOf result ShowError.Write → AppendsPrefix (W.contents to.old.device)
-        (W.contents to.new.device) (shown_line is_named text.now) }
+        (W.contents to.new.device) (shown_line false text.now) }
 {
-    let line = shown_line(alloc, text, is_named)?;
+    let line = shown_line(alloc, text.as_bytes(), false)?;
     write_out(line.as_bytes(), to).map_err(|_| ShowError::Write)
 }
 

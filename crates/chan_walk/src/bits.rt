@@ -4,7 +4,6 @@ ghost use Rattle.std.specs.Prelude.{◌≡◌, length};
 ghost use Rattle.ccw_core.specs.Ccw as specs;
 ghost use Rattle.ccw_core.specs.Held.{bytes_held};
 
-use bitflags::Flags;
 use ccw_core::{Ccw, CcwFlags, Group, Storage};
 
 /// Skip: nothing is stored.
@@ -12,7 +11,7 @@ use ccw_core::{Ccw, CcwFlags, Group, Storage};
 pub(crate) fn skips(ccw: &Ccw) -> bool
     ensures { result ≡ specs.skips ccw.now }
 {
-    ccw.flags() & CcwFlags::SKIP.bits() != 0
+    ccw.has_flag(CcwFlags::SKIP)
 }
 
 /// The three low flag bits, which have to be zero, are zero.

@@ -11,7 +11,6 @@ ghost use Rattle.chan_why.specs.Notes as noted;
 ghost use Rattle.chan_why.specs.Notes.{AddsAddress, AreAddressesOf, IsSeenWith, NothingFollows};
 ghost use Rattle.chan_walk.specs.declared.job.Job.{Job};
 
-use bitflags::Flags;
 use ccw_core::{Area, Ccw, CcwFlags};
 use chan_areas::{Merged, end_of};
 use chan_walk::{Direction, Guard, Job, Look, Survey, data_moved, guarded_areas};
@@ -181,7 +180,7 @@ fn each_once(addresses: Vec<u32>) -> Vec<u32>
 fn asks_interruption(ccw: &Ccw) -> bool
     ensures { result ≡ noted.asks_interruption ccw.now }
 {
-    ccw.flags() & CcwFlags::PCI.bits() != 0
+    ccw.has_flag(CcwFlags::PCI)
 }
 
 /// Whether the CCW at a place is no transfer, and its flag for a program-controlled interruption is

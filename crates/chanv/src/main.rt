@@ -215,7 +215,7 @@ fn deliver_out(rt: &HostRuntime, response: &Response) -> u8
 fn show_ccw(rt: &HostRuntime, parts: &[&str]) -> u8 {
     let mut output = Watched::new(rt.stdout());
     let answer = match joined(rt, parts, "") {
-        Ok(text) => Outcome::of_show(show(rt.alloc(), text.as_bytes(), false, &mut output)),
+        Ok(text) => Outcome::of_show(show(rt.alloc(), text.as_str(), &mut output)),
         Err(AllocError) => Outcome::Failed(Failure::OutOfMemory),
     };
     end_with(rt, answer, &mut output)

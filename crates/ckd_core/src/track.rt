@@ -7,6 +7,7 @@ ghost use Rattle.ckd_core.specs.Device.{heads_of};
 
 use crate::device::Device;
 use crate::extents::Extents;
+use byteorder::{BigEndian, ByteOrder};
 
 /// A track of a device.
 #[derive(Clone, Copy, PartialEq, Eq, Debug)]
@@ -26,20 +27,12 @@ impl Track {
         ensures value { result ≡ track_of argument }
         ensures no_bin { IsSome result ↔ (has_no_bin argument ≡ true) }
     {
-        let [
-            bin_high,
-            bin_low,
-            cylinder_high,
-            cylinder_low,
-            head_high,
-            head_low,
-        ] = argument;
-        if bin_high != 0 || bin_low != 0 {
+        if BigEndian::read_u16(&argument) != 0 {
             return None;
         }
         Some(Track {
-            cylinder: u16::from_be_bytes([cylinder_high, cylinder_low]),
-            head: u16::from_be_bytes([head_high, head_low]),
+            cylinder: BigEndian::read_u16(&argument[2..]),
+            head: BigEndian::read_u16(&argument[4..]),
         })
     }
 }

@@ -8,7 +8,7 @@ use std::alloc::Global;
 /// Whether showing a text answers so, and writes this: a write after that fails.
 fn is_shown(alloc: Global, text: &str, answer: Result<(), ShowError>, line: &[u8]) -> bool {
     let mut to = Watched::new(paper_of(line));
-    show(alloc, text.as_bytes(), false, &mut to) == answer && to.into_inner().left.is_empty()
+    show(alloc, text, &mut to) == answer && to.into_inner().left.is_empty()
 }
 
 #[test]

@@ -13,6 +13,11 @@ pub trait Flags: Sized + 'static {
 
     fn from_bits_retain(bits: Self::Bits) -> Self;
 
+    /// Whether a flag of the one is in the other.
+    fn intersects(&self, other: Self) -> bool {
+        (self.bits() & other.bits()) != Self::Bits::default()
+    }
+
     /// The flags of these bits, unless one of them has no name.
     fn from_bits(bits: Self::Bits) -> Option<Self> {
         let mut rest = bits;
