@@ -29,8 +29,15 @@ LIBRARY = {
     'IsSome': 'IsSome', 'drop': 'skipn', 'reverse': 'rev', **{f'◌{op}◌': None for op in FIXITY}}
 LIBRARY_MODULES = {'std.specs.Prelude', 'std.specs.List', 'std.specs.Option', 'std.specs.List.Sorted'}
 CONSTRUCTORS = {'zero', 'suc', 'true', 'false', '[]', 'Some', 'None'}
-RESERVED = set('as at cofix else end exists exists2 fix for forall fun if in let match return then using where '
-               'with Type Set Prop SProp IF by left right Search Check Print Eval nil cons app fst snd tt pair'.split())
+# words of Coq, names that are written below, and constructors, which a pattern would match. That no
+# constructor is missing here, Coq checks over the lines that `patterns` writes.
+RESERVED = set('''
+ as at by cofix else end exists exists2 fix for forall fun if in let match mod return then using
+ where with Type Set Prop SProp IF Axiom CoFixpoint Definition Fixpoint Hypothesis Parameter
+ Theorem Variable Search Check Print Eval app fst snd unit Empty prod sum sigT O S true false tt
+ inl inr pair nil cons Some None left right inleft inright I conj or_introl or_intror ex_intro
+ ex_intro2 eq_refl inhabits exist exist2 existT existT2 Eq Lt Gt String EmptyString
+ Ascii'''.split())
 COQ = {'<': ('<', 70), '≤': ('<=', 70), '≡': ('=', 70), '≢': ('≢', 70), '+': ('+', 50), '-': ('-', 50), '*': ('*', 40), '%': ('mod', 40),
        '∷': ('::', 60), '++': ('++', 60), '==': ('=?', 70), '&&': ('&&', 40), '||': ('||', 50),
        '×': ('×', 80), '⊎': ('⊎', 85), '↔': ('↔', 95), '→': ('->', 99)}
@@ -41,8 +48,11 @@ class Refused(Exception):
 
 
 # ---- words
-WORD = re.compile(r'''(?P<space>[ \n]+)|(?P<comment>--[^\n]*)|(?P<string>"[^"\\\n]*")|(?P<number>0x[0-9A-Fa-f]+|\d+)
- |(?P<name>[A-Za-z_][\w'-]*)|(?P<op>→|λ|≡|≢|∷|\+\+|\+|-|\*|%|<|≤|==|&&|\|\||×|⊎|↔)|(?P<sign>⊥|ℕ|\[\]|[.,(){}=:;])''', re.X)
+# a text holds signs of ASCII: of others the kit counts characters, and Coq bytes
+WORD = re.compile(r'''(?P<space>[ \n]+)|(?P<comment>--[^\n]*)|(?P<string>"[ !#-[\]-~]*")
+ |(?P<number>0x[0-9A-Fa-f]+|\d+)|(?P<name>[A-Za-z_][\w'-]*)
+ |(?P<op>→|λ|≡|≢|∷|\+\+|\+|-|\*|%|<|≤|==|&&|\|\||×|⊎|↔)|(?P<sign>⊥|ℕ|\[\]|[.,(){}=:;])''',
+                  re.X | re.A)
 Token = namedtuple('Token', 'kind text at spaced')
 
 
@@ -59,6 +69,8 @@ def words(text, where):
             raise Refused(f'{where}: no spaces around {m[0]}: {text[max(0, i - 20):i + 20]!r}')
         if kind == 'number' and re.match(r"[\w'-]", text[m.end():m.end() + 1]):
             raise Refused(f'{where}: a name that begins with a digit: {text[i:i + 20]!r}')
+        if re.match('0[0-9]', m[0]):
+            raise Refused(f'{where}: a number that begins with 0: {m[0]}')
         spaced = kind in ('space', 'comment')
         i = m.end()
     return out
@@ -284,6 +296,8 @@ class Source:
         for item in self.items.values():
             if item.kind == 'pub data':
                 for name in re.findall(r'^  (\w+) :', item.text, re.M):
+                    if name in {**self.constructors, **self.items, **self.uses}:
+                        raise Refused(f'{item.where}: {name} twice')
                     self.constructors[name] = item
 
     def use(self, text, where):
@@ -303,9 +317,10 @@ class Source:
 
 # ---- the structs and enums of the code
 def rust_types(text):
-    """name -> ('struct', [(field, type)]) or ('enum', [(variant, [(field, type)])]), and name -> the type of its Model."""
+    """Pairs of a name and ('struct', [(field, type)]) or ('enum', [(variant, [(field, type)])]); of
+    a name and the type of its Model; of a constant's name and its value."""
     text = re.sub(r'//[^\n]*|#\[[^\]]*\]', '', text)
-    found, models, constants = {}, {}, {}
+    found, models, constants = [], [], []
     def fields(body):
         out = []
         for part in re.split(r',\s*(?![^()<>]*[)>])', body):
@@ -327,34 +342,58 @@ def rust_types(text):
         return out
     for m in re.finditer(r"\bstruct (\w+)(?:<'\w+>)? \{(.*?)\n\}", text, re.S):
         # a ghost field may hold braces and commas: it says what is true, and is no data
-        found[m[1]] = ('struct', fields(re.sub(r'pub ghost [^\n]*\n', '\n', m[2])))
+        found.append((m[1], ('struct', fields(re.sub(r'pub ghost [^\n]*\n', '\n', m[2])))))
     for m in re.finditer(r'\benum (\w+) \{(.*?)\n\}', text, re.S):
-        found[m[1]] = ('enum', variants(m[2]))
-    for m in re.finditer(r"\bimpl(?:<[^>]*>)? Model for (\w+)(?:<[^>]*>)? \{.*?ghost Value = \{([^}]*)\}", text, re.S):
-        models[m[1]] = m[2].strip()
+        found.append((m[1], ('enum', variants(m[2]))))
+    model = (r'\bimpl(?:<[^>]*>)? Model for (\w+)(?:<[^>]*>)? \{'
+             r'(?:(?!\bimpl\b).)*?ghost Value = \{([^}]*)\}')
+    for m in re.finditer(model, text, re.S):
+        models.append((m[1], m[2].strip()))
     for m in re.finditer(r'\bpub const (\w+): \w+ = ([\d_]+|0x[0-9A-Fa-f_]+);', text):
-        constants[m[1]] = int(m[2].replace('_', ''), 0)
+        constants.append((m[1], int(m[2].replace('_', ''), 0)))
     return found, models, constants
 
 
 class Code:
+    """The structs, enums, models and constants of all crates, and where each is declared."""
+
     def __init__(self, root):
-        self.types, self.models, self.constants = {}, {}, {}
+        self.types, self.models, self.constants, self.declared = {}, {}, {}, {}
         for path in sorted(Path(root).glob('crates/*/src/*.rt')):
-            crate = path.parts[-3]
+            crate, module, text = path.parts[-3], path.stem, path.read_text()
+            self.note(crate, module, text)
             try:
-                found, models, constants = rust_types(path.read_text())
+                found, models, constants = rust_types(text)
             except Refused:
                 continue  # a type that is named below is then unknown
-            for all_, own in ((self.types, found), (self.models, models), (self.constants, constants)):
-                all_.update({(crate, name): it for name, it in own.items()})
+            self.types |= {(crate, name): it for name, it in found}
+            self.models |= {(crate, name): it for name, it in models}
+            self.constants |= {(crate, module, name): it for name, it in constants}
+
+    def note(self, crate, module, text):
+        """Notes each declaration of a file: what is read of a name holds only if it has one."""
+        for number, line in enumerate(text.split('\n'), 1):
+            at = f'crates/{crate}/src/{module}.rt:{number}'
+            for m in re.finditer(r'\b(struct|enum|Model for|const) (\w+)', line.partition('//')[0]):
+                key = (crate, m[2]) if m[1] != 'const' else (crate, module, m[2])
+                kind = 'type' if m[1] in ('struct', 'enum') else m[1]
+                self.declared.setdefault((kind, *key), []).append((module, at))
+
+    def want_one(self, kind, key, where, module=None):
+        """Refuses a name that a crate declares twice, or not in the file that is named."""
+        found = self.declared.get((kind, *key), [])
+        files = ', '.join(at for _, at in found)
+        if len(found) > 1: raise Refused(f'{where}: {key[-1]} is declared twice: {files}')
+        if module and [m for m, _ in found] != [module]:
+            raise Refused(f'{where}: {key[-1]} is not declared in {module}: {files}')
 
     def crate_of(self, name, here):
         owners = [c for c, n in {**self.types, **{k: 0 for k in self.models}} if n == name]
-        if here in owners:
-            return here
-        if len(set(owners)) != 1: raise Refused(f'the type {name} of the code: {owners}')
-        return owners[0]
+        owner = here if here in owners else owners[0] if len(set(owners)) == 1 else None
+        if owner is None: raise Refused(f'the type {name} of the code: {owners}')
+        self.want_one('type', (owner, name), f'crates/{here}/src')
+        self.want_one('Model for', (owner, name), f'crates/{here}/src')
+        return owner
 
     def type_of(self, rust, here):
         """A type of the code as a term of the specs."""
@@ -415,6 +454,7 @@ class World:
         if '.' in name:
             alias, _, variant = name.partition('.')
             if m := re.fullmatch(r'(\w+)\.specs\.declared\.(\w+)\.(\w+)\.TheVariants', source.aliases[alias]):
+                self.code.want_one('type', (m[1], m[3]), where, m[2])
                 return ('variant', m[1], m[3], variant)
             raise Refused(f'{where}: {name}')
         if name not in source.uses: raise Refused(f'{where}: {name} is neither defined nor taken by use')
@@ -423,11 +463,16 @@ class World:
             if name not in LIBRARY: raise Refused(f'{where}: {name} of the library has no counterpart')
             return ('library', name)
         if m := re.fullmatch(r'(\w+)\.specs\.declared\.(\w+)\.(\w+)\.TheVariants', path):
+            self.code.want_one('type', (m[1], m[3]), where, m[2])
             return ('variant', m[1], m[3], name)
         if m := re.fullmatch(r'(\w+)\.specs\.declared\.(\w+)\.TheConstants', path):
-            return ('constant', self.code.constants[m[1], name])
+            self.code.want_one('const', (*m.groups(), name), where, m[2])
+            value = self.code.constants.get((*m.groups(), name))
+            if value is None: raise Refused(f'{where}: the constant {name}')
+            return ('constant', value)
         if m := re.fullmatch(r'(\w+)\.specs\.declared\.(\w+)\.(\w+)', path):
             if m[3] != name: raise Refused(f'{where}: {path}.{name}')
+            self.code.want_one('type', (m[1], name), where, m[2])
             return ('code', m[1], name)
         if m := re.fullmatch(r'(\w+)\.specs\.(\w+)', path):
             other = self.source(m[1], m[2])
@@ -527,10 +572,14 @@ def read_item(item):
     return Abbrev(kind, clauses)
 
 
+HEAD_OF_FILE = ["(* Written by translate.py from the definitions of chanv. Don't edit. *)",
+                'From Chanv Require Import Prelude.']
+
+
 class Translation:
     def __init__(self, root, names):
         self.world = World(root)
-        self.read, self.keys = {}, []
+        self.read, self.keys, self.in_patterns = {}, [], set()
         for name in names:
             self.visit(self.world.named(name))
         self.name_all()
@@ -578,8 +627,8 @@ class Translation:
         if not source.aliases:
             return it
         for e in walk_all(it):
-            names = [n for n, *_ in e[-2]] if e[:1] in (('bind',), ('typed',)) else e[1] if e[:1] == ('lambda',) else []
-            if set(names) & set(source.aliases): raise Refused(f'{where}: {names} stand for variants too')
+            twice = bound_by(e) & set(source.aliases)
+            if twice: raise Refused(f'{where}: {twice} stand for variants too')
         return go(it)
 
     def code_parts(self, t):
@@ -707,8 +756,7 @@ class Translation:
             elif key[0] == 'code' and it[0] == 'struct':
                 self.records[key] = {f: self.world.code.type_of(t, key[1]) for f, t in it[1]}
         for key, fields in self.records.items():
-            for f in fields:
-                self.globals.add(f'{self.names[key]}_{f}')
+            self.globals |= {f'mk{self.names[key]}', *(f'{self.names[key]}_{f}' for f in fields)}
 
     def code_rank(self, key):
         """Types of the code stand after those that they name."""
@@ -723,7 +771,8 @@ class Translation:
 
     def variable(self, name):
         name = self.coq_name(name)
-        while name in self.globals or name in RESERVED:
+        # x1, x2 .. are what a definition matches, and tail1, tail2 .. rests of lists
+        while name in self.globals or name in RESERVED or re.fullmatch(r'(x|tail)\d+', name):
             name += '_'
         return name
 
@@ -1049,7 +1098,7 @@ class Translation:
                 shown.append(text)
             # a recursion on the rest of a list that a pattern takes apart again goes by Coq's as
             for sub, alias in tails:
-                term = replace(term, sub, ('coq', alias))
+                term = replace(term, sub, ('coq', alias), free(sub))
             rows.append(f'  | {", ".join(shown)} => {self.show_with_tails(term, inner._replace(whole=term))}')
         return f'{head}\n  match {", ".join(f"x{k + 1}" for k, _ in matched)} with\n' + '\n'.join(rows) + '\n  end.\n'
 
@@ -1064,6 +1113,7 @@ class Translation:
             if p[1] == '_':
                 return '_', scope
             scope = scope.under([(p[1], t)], self)
+            self.in_patterns.add(scope.bound[p[1]])
             return scope.bound[p[1]], scope
         if p[0] == 'op':
             item = (t[0][2], t[1]) if t and t[0][0] == 'app' else None
@@ -1120,7 +1170,19 @@ class Translation:
                 out.append(f'\n(* ---- {where} *)\n')
                 last = where
             out.append(self.emit(key))
-        return '\n'.join(out)
+        return '\n'.join([*HEAD_OF_FILE, self.patterns(), *out])
+
+    def patterns(self):
+        """Lines over which Coq fails if it takes a variable of a pattern for a constructor."""
+        tried = [f'match t with {name} => tt end;' for name in sorted(self.in_patterns)]
+        tried = '\n'.join(' '.join(tried[i:i + 3]) for i in range(0, len(tried), 3))
+        return f'''
+(* what a pattern below binds is no constructor of Coq: each of these names matches anything *)
+Goal forall (T : Type) (t : T), list unit.
+intros T t. exact [
+{tried} tt].
+Abort.
+'''
 
 
 def walk(e):
@@ -1134,16 +1196,26 @@ def walk_all(it):
         yield from walk(e)
 
 
-def replace(e, a, b):
+def replace(e, a, b, names=frozenset()):
+    """The term with b for a, but not under a binder of these names: where a means another thing."""
     if e == a:
         return b
+    if isinstance(e, tuple) and names & bound_by(e):
+        return e
     if isinstance(e, tuple):
-        return tuple(replace(x, a, b) for x in e)
+        return tuple(replace(x, a, b, names) for x in e)
     if isinstance(e, list):
-        return [replace(x, a, b) for x in e]
+        return [replace(x, a, b, names) for x in e]
     if isinstance(e, dict):
-        return {k: replace(v, a, b) for k, v in e.items()}
+        return {k: replace(v, a, b, names) for k, v in e.items()}
     return e
+
+
+def bound_by(e):
+    """The names that a term itself binds in its parts."""
+    if e[:1] in (('bind',), ('typed',)):
+        return {name for name, _, _ in e[-2]}
+    return {*e[1]} if e[:1] == ('lambda',) else set()
 
 
 def coq_names(e):
@@ -1189,7 +1261,6 @@ if __name__ == '__main__':
         text = translation.text()
     except Refused as why:
         sys.exit(f'translate.py: {why}')
-    print('(* Written by translate.py from the definitions of chanv. Don\'t edit. *)')
-    print('From Chanv Require Import Prelude.\n' + text)
+    print(text)
     specs = [k for k in translation.keys if k[0] == 'spec']
     print(f'{len(specs)} definitions of {len({k[1:3] for k in specs})} files, {len(translation.keys) - len(specs)} types of the code', file=sys.stderr)

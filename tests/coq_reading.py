@@ -54,8 +54,13 @@ REFUSED = [
     "record { a = record { b = c } . }",
     "a / b",
     "a ^ b",
+    'codes "é"',
+    "é",
+    "aé",
+    "f 007",
 ]
 A, B = "abbrev pub A : ℕ\nA = 1\n", "abbrev pub B : ℕ\nB = 2\n"
+D = "pub data D : Type 0 where\n  c : D\n"
 FILES = [
     (f"use Rattle.x.specs.X.{{C, D}}\nuse Rattle.y.specs.Y.{{E}}\n{A}{B}", None),
     (f"{A}{B}{A}", "5: A twice"),
@@ -70,6 +75,9 @@ FILES = [
     (f"{A}infix 5 A\n", "3: infix 5 A"),
     (f"{A}pub mod m\n", "3: pub mod m"),
     (f"{A}B = 2\n", "3: no definition: B = 2"),
+    (f"{A}{D}", None),
+    (f"{D}{D.replace('D', 'E')}", "3: c twice"),
+    (f"use Rattle.x.specs.X.{{c}}\n{D}", "2: c twice"),
 ]
 
 
