@@ -6,7 +6,8 @@ kit does, and refuses what it doesn't know, with file and line. The comparison w
 each difference that a made-up kit has. An error of a proof is an error of `make coq`. The verifier
 that is proved there says the same as the program over all example decks, random jobs, large decks
 and refused decks; it reports refused memory and a failed write; and what stands in OCaml for two
-functions of Coq gives what these give. Without Coq the test is left out, by its name.
+functions of Coq gives what these give. Forms that Coq could read otherwise than the kit mean the
+same there. Without Coq the test is left out, by its name.
 """
 
 import os
@@ -20,6 +21,8 @@ from random import Random
 from answers import MOST_BYTES
 from building import ROOT, short
 from closure import CRATES, Sources, statements
+from coq_forms import FORMS, NAMES, VALUES, translated, write_crate
+from coq_meanings import OF_COQ
 from coq_reading import differs, wrong_files, wrong_readings
 from edges import chain_of
 from examples import FOLDERS, SEARCH_LOOP, TEXTS, decks_of
@@ -278,6 +281,24 @@ def check_extraction(checks, room):
         checks.expect(f"{name} in OCaml", *numbers)
 
 
+def check_forms(checks, room):
+    """Made-up forms mean in Coq what the kit makes of them, and no pattern binds a constructor."""
+    room = room / "forms"
+    write_crate(room, FORMS, {})
+    shutil.copy(HERE / "Prelude.v", room)
+    coqc = ["coqc", "-w", "none", "-Q", ".", "Chanv"]
+    text = translated(room, NAMES)
+    (room / "Forms.v").write_text("\n".join([text, *VALUES, ""]))
+    for file in ("Prelude.v", "Forms.v"):
+        ran = run(*coqc, file, cwd=room)
+        checks.expect(f"made-up forms in Coq, {file}", (0, ""), (ran.status, ran.error))
+    for word in sorted(OF_COQ):
+        (room / "Bound.v").write_text(text.replace("with o => tt", f"with {word} => tt"))
+        ran = run(*coqc, "Bound.v", cwd=room)
+        is_refused = re.search('The constructor|The term "t" has type "T"', ran.error)
+        checks.expect_that(f"Coq refuses a pattern that binds {word}", is_refused, ran)
+
+
 def check_speed(checks, room):
     for name, most in MOST.items():
         deck = room / f"{name}.deck"
@@ -312,4 +333,5 @@ def check(checks, built):
         check_kit(checks, room)
         check_proving(checks, room)
         check_extraction(checks, room)
+        check_forms(checks, room)
         check_speed(checks, room)
