@@ -2,8 +2,10 @@
 
 `make coq` proves every law of chan_walk and chan_needs with no axiom. The translator takes exactly
 the definitions that closure.py counts, prints each back as its file has it, reads operators as the
-kit does, and refuses what it doesn't know, with file and line. The comparison with the kit finds
-each difference that a made-up kit has. An error of a proof is an error of `make coq`. The verifier
+kit does, and refuses what it doesn't know, with file and line. Kit.v proves the laws of the kit's
+library of what Coq has in its place: each line that it quotes has a goal, over another Prelude.v a
+goal fails, and the comparison with the kit finds each difference of a made-up kit and of a copy. An
+error of a proof is an error of `make coq`. The verifier
 that is proved there says the same as the program over all example decks, random jobs, large decks
 and refused decks; it reports refused memory and a failed write; and what stands in OCaml for two
 functions of Coq gives what these give. Forms that Coq could read otherwise than the kit mean the
@@ -35,7 +37,8 @@ from speed import decks_of_bench
 HERE = ROOT / "coq"
 sys.path.insert(0, str(HERE))
 
-from kit import DECLARES, OPERATORS, TEXTS as OF_THE_KIT, differences_to  # noqa: E402
+from kit import DECLARES, LAWS as OF_KIT_V, OPERATORS, QUOTED  # noqa: E402
+from kit import TEXTS as OF_THE_KIT, differences_to  # noqa: E402
 from translate import FIXITY, Translation  # noqa: E402
 
 TOOLS = ["coqc", "coq_makefile", "ocamlopt", "make"]
@@ -56,6 +59,27 @@ OUT_OF_MEMORY = "chanv-coq: {}: out of memory\n"
 STATED = re.compile(
     r"^Check \(?(\w+)(?: : (\w+)\))?\.(?: +Print Assumptions (\w+)\.)?$", re.MULTILINE
 )
+
+# a part of Prelude.v, and another that no longer says what the kit does
+OTHER_PRELUDES = [
+    ("(prod A B)", "(sum A B)"),
+    ("(sum A B)", "(prod A B)"),
+    ("(prod (A -> B) (B -> A))", "(prod (A -> B) (A -> B))"),
+    ("(a = b -> Empty)", "(a = b -> unit)"),
+    ("[] => unit", "[] => Empty"),
+    ("P x × AllByRecursion P xs end", "P x ⊎ AllByRecursion P xs end"),
+    ("nth i xs 0.", "nth i xs 1."),
+    (":= seq a n.", ":= seq (S a) n."),
+    ("None => p | Some x => Some x", "None => p | Some x => p"),
+    ("None => false | Some _ => true", "None => true | Some _ => false"),
+    (":= negb (is_some o).", ":= is_some o."),
+    ("list_ascii_of_string s).", "rev (list_ascii_of_string s))."),
+    ("forall k, k + 1 < List", "forall k, k < List"),
+    ("is_some o = true.", "is_some o = false."),
+    ("forall k d, k < List", "forall k d, k <= List"),
+    ("low <= k -> k < high -> P (nth k xs d).", "low < k -> k < high -> P (nth k xs d)."),
+    (":= forall d, P (nth k xs d).", ":= forall d, P (nth 0 xs d)."),
+]
 
 # in place of coq_makefile and coqc: one makes nothing, one fails over a file
 MAKES_NOTHING = "#!/bin/sh\nprintf 'all:\\n' > Makefile.proofs\n"
@@ -207,43 +231,84 @@ def made_up_kit():
     return files
 
 
-def other_kits():
-    """Each file that differs, and what the script has to say of it."""
-    files = made_up_kit()
+def other_kits(files):
+    """Each file of a kit that differs, and what the script has to say of it."""
     for file, operators in OPERATORS.items():
         for operator in operators.split():
             strength, side = FIXITY[operator]
-            declared = f"{DECLARES[side]} {strength} ◌{operator}◌\n"
+            declared = f"{DECLARES[side]} {strength} ◌{operator}◌"
             for other in (
-                f"{DECLARES[side]} {strength + 1} ◌{operator}◌\n",
+                declared.replace(str(strength), str(strength + 1)),
                 declared.replace(DECLARES[side], "infixl" if side != "left" else "infixr"),
                 "",
             ):
-                yield file, files[file].replace(declared, other), f"{operator}: "
+                names = r"(?m)^infix[lr]? .*$"
+                changed = re.sub(names, lambda it: it[0].replace(f" ◌{operator}◌", ""), files[file])
+                yield file, f"{changed}\n{other}\n", f"{operator}: "
     for file, texts in OF_THE_KIT.items():
         for text in texts:
-            for other in (text.replace(text[-2], "other", 1), "", f"{text}{text}"):
+            others = [text.replace(text[-2], "other", 1), "", f"{text}\n{text}"]
+            if " = " in text.splitlines()[-1]:
+                others += [f"{text}other = other\n", f"other = other\n{text}"]
+            for other in others:
                 yield file, files[file].replace(text, other), f"{file}: {text!r}"
 
 
-def check_kit(checks, room):
-    """The comparison with the kit finds each difference, and then has another status."""
-    kit = room / "kit"
-    for file, text in made_up_kit().items():
+def check_differing(checks, files, room, which):
+    """The comparison finds each difference of a kit with these files."""
+    kit = room / which
+    for file, text in files.items():
         (kit / file).parent.mkdir(parents=True, exist_ok=True)
         (kit / file).write_text(text)
-    checks.expect("a kit that doesn't differ", [], [*differences_to(kit)])
     script = [sys.executable, "-B", HERE / "kit.py", kit]
-    checks.expect("the script over it", Ran(0, "nothing differs\n"), run(*script))
-    for file, text, begin in other_kits():
-        was = text_of(kit / file)
+    checks.expect(f"the script over {which}", Ran(0, "nothing differs\n"), run(*script))
+    for file, text, begin in other_kits(files):
         (kit / file).write_text(text)
         said = [*differences_to(kit)]
         found = any(line.startswith(begin) for line in said)
-        checks.expect_that(f"a kit that differs: {begin}", found, said)
-        (kit / file).write_text(was)
+        checks.expect_that(f"{which} that differs: {begin}", found, said)
+        (kit / file).write_text(files[file])
     (kit / file).write_text(text)
-    checks.expect("the script's status over a kit that differs", 1, run(*script).status)
+    checks.expect(f"the script's status over {which} that differs", 1, run(*script).status)
+
+
+def check_kit(checks, room):
+    """The comparison with the kit finds each difference, in a made-up kit and in a copy."""
+    check_differing(checks, made_up_kit(), room, "a made-up kit")
+    if not shutil.which("rt"):
+        checks.skip("the kit's sources", "no rt here")
+        return
+    kit = Path(text_of(run("rt", "doc").output.encode()).strip()).parent / "rattle"
+    checks.expect("what differs from the kit", [], [*differences_to(kit)])
+    lines = {file: text_of(kit / file).splitlines() for file in {*OPERATORS, *OF_THE_KIT}}
+    copy = {file: "".join(f"{it.strip()}\n" for it in some) for file, some in lines.items()}
+    check_differing(checks, copy, room, "a copy of the kit")
+
+
+def check_quoted(checks):
+    """Each line that Kit.v quotes has a goal after it, if it says what something is."""
+    ends = [it.end() for it in QUOTED.finditer(OF_KIT_V)]
+    begins = [it.start() for it in QUOTED.finditer(OF_KIT_V)][1:] + [len(OF_KIT_V)]
+    for (file, text), end, begin in zip(QUOTED.findall(OF_KIT_V), ends, begins):
+        lines = [it for it in text.splitlines() if not it.startswith(("pub use", "infix", "⊤"))]
+        goals = re.findall(r"(?m)^Goal ", OF_KIT_V[end:begin])
+        checks.expect(f"goals after {file}: {text!r}", len(lines), len(goals))
+    checks.expect("all that Kit.v quotes", OF_KIT_V.count("\n(* "), len(ends))
+
+
+def check_prelude(checks, room):
+    """Over a prelude that differs from the kit, a goal of Kit.v can't be proved."""
+    room = room / "prelude"
+    room.mkdir()
+    shutil.copy(HERE / "Kit.v", room)
+    text = text_of(HERE / "Prelude.v")
+    for old, new in (("", ""), *OTHER_PRELUDES):
+        checks.expect_that(f"Prelude.v has {old!r} once", not old or text.count(old) == 1, old)
+        (room / "Prelude.v").write_text(text.replace(old, new) if old else text)
+        files = ("Prelude.v", "Kit.v")
+        done = [run("coqc", "-w", "none", "-Q", ".", "Chanv", it, cwd=room).status for it in files]
+        expected = [0, 1] if old else [0, 0]
+        checks.expect(f"Prelude.v and Kit.v over {new!r} for {old!r}", expected, done)
 
 
 def check_proving(checks, room):
@@ -319,11 +384,7 @@ def check(checks, built):
     check_translation(checks)
     checks.expect("readings that aren't the kit's", [], [*wrong_readings()])
     checks.expect("files that are read otherwise", [], [*wrong_files()])
-    if shutil.which("rt"):
-        kit = Path(text_of(run("rt", "doc").output.encode()).strip()).parent / "rattle"
-        checks.expect("what differs from the kit", [], [*differences_to(kit)])
-    else:
-        checks.skip("the kit's sources", "no rt here")
+    check_quoted(checks)
     with tempfile.TemporaryDirectory() as room:
         program, room = built.chanv(), Path(room)
         check_verdicts(checks, program, room)
@@ -331,6 +392,7 @@ def check(checks, built):
         check_statuses(checks, room)
         check_failures(checks, room)
         check_kit(checks, room)
+        check_prelude(checks, room)
         check_proving(checks, room)
         check_extraction(checks, room)
         check_forms(checks, room)
