@@ -23,7 +23,7 @@ from random import Random
 from answers import MOST_BYTES
 from building import ROOT, short
 from closure import CRATES, Sources, statements
-from coq_forms import FORMS, NAMES, VALUES, translated, write_crate
+from coq_forms import FORMS, NAMES, VALUES, definitions_of_pairs, translated, write_crate
 from coq_meanings import OF_COQ
 from coq_reading import differs, wrong_files, wrong_readings
 from edges import chain_of
@@ -349,11 +349,12 @@ def check_extraction(checks, room):
 def check_forms(checks, room):
     """Made-up forms mean in Coq what the kit makes of them, and no pattern binds a constructor."""
     room = room / "forms"
-    write_crate(room, FORMS, {})
+    names, pairs, goals = definitions_of_pairs()
+    write_crate(room, FORMS + pairs, {})
     shutil.copy(HERE / "Prelude.v", room)
     coqc = ["coqc", "-w", "none", "-Q", ".", "Chanv"]
-    text = translated(room, NAMES)
-    (room / "Forms.v").write_text("\n".join([text, *VALUES, ""]))
+    text = translated(room, NAMES + names)
+    (room / "Forms.v").write_text("\n".join([text, *VALUES, *goals, ""]))
     for file in ("Prelude.v", "Forms.v"):
         ran = run(*coqc, file, cwd=room)
         checks.expect(f"made-up forms in Coq, {file}", (0, ""), (ran.status, ran.error))

@@ -1,7 +1,8 @@
 """Made-up crates in forms that kit and Coq could read differently, for coq_written and coq.
 
 FORMS is translated, and VALUES has for each of its definitions what the kit makes of it, as a goal
-of Coq. What else a crate may hold is refused: REFUSED has the sources and what the script says.
+of Coq. `pairs` puts each operator on each side of each other, and has what Coq has to read, without
+operators. SOURCES has what a crate may hold beside its definitions, and why it is refused.
 """
 
 import sys
@@ -13,8 +14,8 @@ sys.path.insert(0, str(ROOT / "coq"))
 from translate import Refused, Translation  # noqa: E402
 
 LIBRARY = """use Rattle.std.specs.Prelude.{◌≡◌, List, [], ◌∷◌, ℕ, zero, suc, Bool, true, false}
-use Rattle.std.specs.Prelude.{Option, None, Some, length, ◌+◌, ◌*◌, ◌-◌, ◌%◌, ◌&&◌, ◌||◌, map}
-use Rattle.std.specs.Prelude.{if◌then◌else◌, nat_lt, codes}
+use Rattle.std.specs.Prelude.{Option, None, Some, length, ◌+◌, ◌*◌, ◌-◌, ◌%◌, ◌&&◌, ◌||◌, ◌++◌, map}
+use Rattle.std.specs.Prelude.{if◌then◌else◌, nat_lt, codes, ◌==◌, ◌≢◌, ◌<◌, ◌≤◌, ◌⊎◌, ◌↔◌}
 """
 FORMS = """
 -- b is bound anew, and the list behind it is no longer what the pattern took apart
@@ -51,6 +52,9 @@ abbrev pub same : List ℕ → List ℕ
 same (tail1 ∷ b ∷ l) = tail1 ∷ (b ∷ l)
 same xs = xs
 
+abbrev pub HasEqual : Type 0
+HasEqual = (n : ℕ) (e : n ≡ 1) → (m : ℕ) × (e : m ≡ n) × (n ≡ m)
+
 -- words of Coq are variables
 abbrev pub sum_of : ℕ → ℕ → ℕ → ℕ
 sum_of mod forall match = mod + forall * match - match % 2 + 1
@@ -58,7 +62,8 @@ sum_of mod forall match = mod + forall * match - match % 2 + 1
 abbrev pub is_between : Bool → Bool → Bool → Bool
 is_between fst nat S = if fst && nat || S then nat_lt 1 2 && S else fst || nat && S
 """
-NAMES = "HasSeven AreAllSevens with_nines is_without is_any first same sum_of is_between".split()
+NAMES = """HasSeven AreAllSevens with_nines is_without is_any first same HasEqual sum_of
+ is_between""".split()
 VALUES = [
     "Goal HasSeven [1; 2]. exact (existT _ 7 eq_refl). Qed.",
     "Goal AreAllSevens [1; 7] -> Empty. intros H. discriminate (H 8). Qed.",
@@ -70,6 +75,7 @@ VALUES = [
     "Goal first 3 0 = 3. reflexivity. Qed.",
     "Goal first 3 9 = 3. reflexivity. Qed.",
     "Goal same [1; 2; 3] = [1; 2; 3]. reflexivity. Qed.",
+    "Goal HasEqual. intros n e. exact (existT _ n (existT _ eq_refl eq_refl)). Qed.",
     # 5 + 2 * 3 - 3 % 2 + 1
     "Goal sum_of 5 2 3 = 11. reflexivity. Qed.",
     # if false && true || false, then the rest: false || true && false
@@ -78,6 +84,52 @@ VALUES = [
     "Goal is_between false false true = true. reflexivity. Qed.",
     "Goal is_between true false false = true. reflexivity. Qed.",
 ]
+
+# operator -> the types of its sides, the type of what it makes, and Coq's function
+OPERATORS = {
+    "+": ("ℕ", "ℕ", "ℕ", "Nat.add ({}) ({})"),
+    "-": ("ℕ", "ℕ", "ℕ", "Nat.sub ({}) ({})"),
+    "*": ("ℕ", "ℕ", "ℕ", "Nat.mul ({}) ({})"),
+    "%": ("ℕ", "ℕ", "ℕ", "Nat.modulo ({}) ({})"),
+    "==": ("ℕ", "ℕ", "Bool", "Nat.eqb ({}) ({})"),
+    "&&": ("Bool", "Bool", "Bool", "andb ({}) ({})"),
+    "||": ("Bool", "Bool", "Bool", "orb ({}) ({})"),
+    "∷": ("ℕ", "List ℕ", "List ℕ", "cons ({}) ({})"),
+    "++": ("List ℕ", "List ℕ", "List ℕ", "app ({}) ({})"),
+    "≡": ("ℕ", "ℕ", "Type 0", "@eq nat ({}) ({})"),
+    "≢": ("ℕ", "ℕ", "Type 0", "forall _ : @eq nat ({}) ({}), Empty_set"),
+    "<": ("ℕ", "ℕ", "Type 0", "lt ({}) ({})"),
+    "≤": ("ℕ", "ℕ", "Type 0", "le ({}) ({})"),
+    "×": ("Type 0", "Type 0", "Type 0", "prod ({}) ({})"),
+    "⊎": ("Type 0", "Type 0", "Type 0", "sum ({}) ({})"),
+    "↔": ("Type 0", "Type 0", "Type 0", "prod (forall _ : {0}, {1}) (forall _ : {1}, {0})"),
+    "→": ("Type 0", "Type 0", "Type 0", "forall _ : {}, {}"),
+}
+
+
+def pairs():
+    """A definition for each operator on each side of each other, and its goal in Coq."""
+    for outer, (left, right, makes, of_outer) in OPERATORS.items():
+        for inner, (one, other, made, of_inner) in OPERATORS.items():
+            within = of_inner.format("a", "b")
+            if made == left:
+                text = f"(a {inner} b) {outer} c"
+                yield (one, other, right, makes), text, of_outer.format(within, "c")
+            if made == right:
+                text = f"c {outer} (a {inner} b)"
+                yield (one, other, left, makes), text, of_outer.format("c", within)
+
+
+def definitions_of_pairs():
+    """The names of the pairs, their definitions, and their goals."""
+    found = [*pairs()]
+    names = [f"pair_{number}" for number in range(len(found))]
+    texts, goals = [], []
+    for name, (types, text, in_coq) in zip(names, found):
+        texts.append(f"abbrev pub {name} : {' → '.join(types)}\n{name} a b c = {text}\n")
+        goals.append(f"Goal forall a b c, {name} a b c = ({in_coq}). reflexivity. Qed.")
+    return names, "\n".join(texts), goals
+
 
 A_ROW = "pub struct Row {\n    pub bits: u8,\n}\n"
 NO_ROW = "struct Row<'a> {\n    names: &'a [u8],\n}\n"

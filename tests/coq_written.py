@@ -191,6 +191,10 @@ def check_forms(checks):
             checks.expect(f"the made-up form {name}, as written", [], differences(text, root))
         for row in CAUGHT:
             check_altered(checks, texts[row[0]], [row], root)
+        names, text, _ = coq_forms.definitions_of_pairs()
+        coq_forms.write_crate(root, text, {})
+        text = coq_forms.translated(root, names)
+        checks.expect("pairs of operators, as written", [], differences(text, root))
     for name, (sources, text, wanted) in coq_forms.SOURCES.items():
         with tempfile.TemporaryDirectory() as room:
             root = Path(room)
