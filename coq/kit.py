@@ -40,7 +40,7 @@ TEXTS = texts_of(LAWS)
 
 
 def stands_in(text, whole):
-    """Whether the lines of a text are in a file exactly once, with all clauses if they are clauses."""
+    """Whether a file has the lines of a text exactly once, and if they are clauses no others."""
     lines = [line.strip() for line in whole.splitlines()]
     wanted = [line.strip() for line in text.splitlines()]
     starts = [at for at in range(len(lines)) if lines[at : at + len(wanted)] == wanted]

@@ -2,10 +2,11 @@
 
 A definition that was read is written back in the notation of the specs, with every operator in
 parentheses, and compared with its file word by word; parentheses, and signs after a last part, are
-left out. READ has texts with the order in which the kit reads them, REFUSED texts that the
+left out. The items of a file, one after the other, have all its words. READ has texts with the order in which the kit reads them, REFUSED texts that the
 translator may not read, and FILES files of definitions, each with why it is refused, or None.
 """
 
+import re
 import sys
 import tempfile
 from itertools import zip_longest
@@ -154,6 +155,20 @@ def differs(source, name):
     item = source.items[name]
     file = tokens(" ".join([item.text, *(text for text, _ in item.clauses)]))
     back = tokens(" ".join(texts_of(read_item(item), name)))
+    pairs = [*zip_longest(file, back)]
+    at = next((n for n, (one, other) in enumerate(pairs) if one != other), None)
+    return None if at is None else pairs[at : at + 6]
+
+
+def lost(source, text):
+    """The first words at which a file differs from the items that it was split into, or None."""
+    rest = re.sub(r"(?m)^(?:pub )?use .*(?:\n[ }].*)*", "", text)
+    split = [
+        part
+        for item in source.items.values()
+        for part in (f"{item.kind} {item.name}{item.text}", *(it for it, _ in item.clauses))
+    ]
+    file, back = (re.sub("--.*", "", it).split() for it in (rest, "\n".join(split)))
     pairs = [*zip_longest(file, back)]
     at = next((n for n, (one, other) in enumerate(pairs) if one != other), None)
     return None if at is None else pairs[at : at + 6]

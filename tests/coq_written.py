@@ -6,7 +6,8 @@ read: a variable by what binds it, every other name by what its file takes it fr
 (`coq_meanings`), a field by its record, a clause by its patterns (`coq_terms`), and structs, enums
 and constants by the sources in Rust (`coq_types`). ALTERED has changes of the text: each has to be
 noticed, at its definition. Forms that Coq could read differently are written otherwise, or refused
-with file and line (`coq_forms`). Coq itself isn't needed.
+with file and line (`coq_forms`), and no word of a file is lost when it is split into definitions.
+Coq itself isn't needed.
 """
 
 import re
@@ -18,6 +19,7 @@ from pathlib import Path
 import coq_forms
 from building import ROOT
 from coq_meanings import Files, Names
+from coq_reading import lost
 from coq_terms import Clauses, Differs
 from coq_text import Definition, Inductive, Items, Record, Unread
 from coq_types import Types
@@ -217,5 +219,9 @@ def check(checks, _built):
     checks.expect("definitions that are written twice", len({*whole.found}), len(whole.found))
     found = {it[3] for it in whole.found if it[0] == "definition"}
     checks.expect("laws that aren't written", set(), {*names} - found)
+    for crate, file in sorted({it[1:3] for it in whole.found if it[0] == "definition"}):
+        source = whole.names.files.file(crate, file).source
+        path = ROOT / f"crates/{crate}/specs/{file}.antt"
+        checks.expect(f"words of {crate}/{file} that are lost", None, lost(source, text_of(path)))
     check_altered(checks, text, ALTERED, ROOT)
     check_forms(checks)
