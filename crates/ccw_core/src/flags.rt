@@ -72,11 +72,10 @@ pub(crate) fn flag_letters(flags: u8) -> [u8; 6]
     ensures { result ≡ flag_letters flags }
 {
     let [cd, cc, sli, skip, pci] = FLAG_LETTERS;
-    let (cd, cc, sli) = (letter(flags, cd), letter(flags, cc), letter(flags, sli));
     [
-        cd,
-        cc,
-        sli,
+        letter(flags, cd),
+        letter(flags, cc),
+        letter(flags, sli),
         letter(flags, skip),
         letter(flags, pci),
         b'0' + flags % 8,

@@ -24,7 +24,8 @@ returns-then-address-lt-STORAGE_LIMIT c =
 
 pub returns-then-address : goal.returns-then-address
 returns-then-address c =
-    let same = ap (λ (d : List ℕ). take 7 (drop 1 d)) c.number_digits-digits.ensures ∙ seven_last c.args.address c.if-address-lt-STORAGE_LIMIT.false c.if-address.true in
+    let same = ap (λ (d : List ℕ). take 7 (drop 1 d)) c.number_digits-digits.ensures
+    ∙ seven_last c.args.address c.if-address-lt-STORAGE_LIMIT.false c.if-address.true in
     subst (λ (t : List ℕ). OnOk c.push_ascii-then-address.result (string_bytes c.push_ascii-then-address.new.out ≡ string_bytes c.args.out.now ++ t)) same
     c.push_ascii-then-address.ensures
 
