@@ -1,7 +1,8 @@
 -- The fields and the eight bytes of a channel command word are two forms of one thing.
-use Rattle.std.proofs.Common.{◌≡◌, ◌<◌, ◌+◌, ◌*◌, ◌%◌, ◌++◌, ℕ, Bool, true, false, if◌then◌else◌, IsAscii, List, [], ◌∷◌, length, get_or, refl, sym, ap, ◌∙◌, arith}
+use Rattle.std.proofs.Common.{Bool, IsAscii, List, [], ap, arith, codes, false, get_or, if◌then◌else◌, length, refl, suc, sym, zero, true, ℕ, ◌*◌, ◌++◌, ◌+◌, ◌<◌, ◌∙◌, ◌∷◌, ◌≡◌}
 use Rattle.std.proofs.lemmas.Str.Ascii.{IsAscii-cons, IsAscii-nil}
-use Rattle.std.specs.List.{AllByRecursion}
+use Rattle.hex.specs.Hex.{encode_upper}
+use Rattle.ccw_core.proofs.UpperDigits.{ascii_digits}
 use Rattle.byteorder.specs.Endian.{big_bytes}
 use Rattle.byteorder.specs.Numbers.{big_number-reads_back}
 use Rattle.ccw_core.specs.Ccw.{Fields, ccw, bytes_of, flag_letters, is_on, letter_of}
@@ -37,29 +38,40 @@ ccw-same s t a b same =
     rw (zero, same 1 (omega arith), same 2 (omega arith), same 3 (omega arith))
     (rw (same 4 (omega arith), same 5 (omega arith), same 6 (omega arith), same 7 (omega arith)) refl)
 
--- characters each of which is ASCII
-pub small_all : (xs : List ℕ) → AllByRecursion (λ x. x < 128) xs → IsAscii xs
-small_all [] h = IsAscii-nil
-small_all (x ∷ xs) h = IsAscii-cons x xs h.0 (small_all xs h.1)
+-- the text of a CCW before its group
+abbrev pub front_text : Fields → List ℕ
+front_text c =
+    encode_upper (c.command ∷ []) ++ codes " " ++ (encode_upper (big_bytes 3 c.address) ++ codes " " ++ (flag_letters c.flags ++ codes " "
+    ++ (encode_upper (c.spare ∷ []) ++ codes " " ++ (encode_upper (big_bytes 2 c.count) ++ codes " " ++ []))))
 
--- the letters of flags are ASCII
+-- it is ASCII
 small_letter : (f flag letter : ℕ) → letter < 128 → letter_of f flag letter < 128
 small_letter f flag letter lt = chosen (is_on f flag) where
   chosen : (b : Bool) → (if b then letter else 45) < 128
   chosen true = lt
   chosen false = omega arith
 
-pub ascii_letters : (f : ℕ) → IsAscii (flag_letters f)
-ascii_letters f =
-    let low : 48 + f % 8 < 128 = omega arith in
-    let named : (flag letter : ℕ) → letter < 128 → letter_of f flag letter < 128 = small_letter f in
-    small_all (flag_letters f) (
-      named 0x80 68 (omega arith),
-      (
-        named 0x40 67 (omega arith),
-        (
-          named 0x20 76 (omega arith),
-          (named 0x10 83 (omega arith), (named 0x08 80 (omega arith), (low, tt))),
-        ),
-      ),
-    )
+ascii_letters : (f i : ℕ) → get_or (flag_letters f) i 0 < 128
+ascii_letters f zero = small_letter f 0x80 68 (omega arith)
+ascii_letters f (suc zero) = small_letter f 0x40 67 (omega arith)
+ascii_letters f (suc (suc zero)) = small_letter f 0x20 76 (omega arith)
+ascii_letters f (suc (suc (suc zero))) = small_letter f 0x10 83 (omega arith)
+ascii_letters f (suc (suc (suc (suc zero)))) = small_letter f 0x08 80 (omega arith)
+ascii_letters f (suc (suc (suc (suc (suc zero))))) = omega arith
+ascii_letters f (suc (suc (suc (suc (suc (suc i)))))) = omega arith
+
+then_blank : (xs ys : List ℕ) → IsAscii xs → IsAscii ys → IsAscii (xs ++ codes " " ++ ys)
+then_blank [] ys h k = IsAscii-cons 32 ys (omega arith) k
+then_blank (x ∷ xs) ys h k = IsAscii-cons x _ (h 0) (then_blank xs ys (λ i. h (suc i)) k)
+
+pub ascii_text : (c : Fields) → IsAscii (front_text c)
+ascii_text c =
+    let digits : List ℕ → List ℕ = encode_upper in
+    let count = digits (big_bytes 2 c.count) ++ codes " " ++ [] in
+    let spare = digits (c.spare ∷ []) ++ codes " " ++ count in
+    let letters = flag_letters c.flags ++ codes " " ++ spare in
+    let address = digits (big_bytes 3 c.address) ++ codes " " ++ letters in
+    then_blank (digits (c.command ∷ [])) address (ascii_digits (c.command ∷ []))
+    (then_blank (digits (big_bytes 3 c.address)) letters (ascii_digits (big_bytes 3 c.address))
+    (then_blank (flag_letters c.flags) spare (ascii_letters c.flags) (then_blank (digits (c.spare ∷ [])) count (ascii_digits (c.spare ∷ []))
+    (then_blank (digits (big_bytes 2 c.count)) [] (ascii_digits (big_bytes 2 c.count)) IsAscii-nil))))
