@@ -1,5 +1,6 @@
 -- The fields and the eight bytes of a channel command word are two forms of one thing.
 use Rattle.std.proofs.Common.{Bool, IsAscii, List, [], ap, arith, codes, false, get_or, if◌then◌else◌, length, refl, suc, sym, zero, true, ℕ, ◌*◌, ◌++◌, ◌+◌, ◌<◌, ◌∙◌, ◌∷◌, ◌≡◌}
+use Rattle.std.proofs.lemmas.Str.{IsAscii-append}
 use Rattle.std.proofs.lemmas.Str.Ascii.{IsAscii-cons, IsAscii-nil}
 use Rattle.hex.specs.Hex.{encode_upper}
 use Rattle.ccw_core.proofs.UpperDigits.{ascii_digits}
@@ -61,8 +62,7 @@ ascii_letters f (suc (suc (suc (suc (suc zero))))) = omega arith
 ascii_letters f (suc (suc (suc (suc (suc (suc i)))))) = omega arith
 
 then_blank : (xs ys : List ℕ) → IsAscii xs → IsAscii ys → IsAscii (xs ++ codes " " ++ ys)
-then_blank [] ys h k = IsAscii-cons 32 ys (omega arith) k
-then_blank (x ∷ xs) ys h k = IsAscii-cons x _ (h 0) (then_blank xs ys (λ i. h (suc i)) k)
+then_blank xs ys h k = IsAscii-append (xs ++ codes " ") ys (IsAscii-append xs (codes " ") h (IsAscii-cons 32 [] (omega arith) IsAscii-nil)) k
 
 pub ascii_text : (c : Fields) → IsAscii (front_text c)
 ascii_text c =

@@ -25,12 +25,10 @@ passes p (x ∷ t) h z (suc k) = passes p t (and_parts (p x) (all_pass p t) h).1
 
 -- each digit of bytes passes a test that the sixteen pass
 pub digits_pass : (p : ℕ → Bool) → all_pass p upper_digits ≡ true → p 0 ≡ true
-    → (bytes : List ℕ) (i : ℕ) → p (slice_index (encode_upper bytes) i) ≡ true
+    → (bytes : List ℕ) → all_pass p (encode_upper bytes) ≡ true
 unfolding encode_with
-digits_pass p h z [] i = z
-digits_pass p h z (b ∷ bytes) zero = passes p upper_digits h z (b / 16)
-digits_pass p h z (b ∷ bytes) (suc zero) = passes p upper_digits h z (b % 16)
-digits_pass p h z (b ∷ bytes) (suc (suc i)) = digits_pass p h z bytes i
+digits_pass p h z [] = refl
+digits_pass p h z (b ∷ bytes) = rw (passes p upper_digits h z (b / 16), passes p upper_digits h z (b % 16), digits_pass p h z bytes) refl
 
 -- ---- small letters made capitals
 
@@ -66,10 +64,8 @@ abbrev fits : ℕ → Option ℕ → Bool
 fits c None = true
 fits c (Some v) = if is_ascii_lowercase c then true else (nat_lt v 16 && c == slice_index upper_digits v)
 
-abbrev IsDigitOf : ℕ → ℕ → Type 0
-IsDigitOf c v = (v < 16) × (c ≡ slice_index upper_digits v)
-
-digit_told : (c v : ℕ) → c < 256 → is_ascii_lowercase c ≡ false → hex_digit_value c ≡ Some v → IsDigitOf c v
+digit_told : (c v : ℕ) → c < 256 → is_ascii_lowercase c ≡ false → hex_digit_value c ≡ Some v
+    → (v < 16) × (c ≡ slice_index upper_digits v)
 digit_told c v lt capital h =
     let right : fits c (Some v) ≡ true = ap (fits c) (sym h) ∙ below (λ d. fits d (hex_digit_value d)) 256 c refl lt in
     let parts = and_parts (nat_lt v 16) (c == slice_index upper_digits v) (rw capital at right) in
@@ -115,26 +111,20 @@ pub on_pushed : {T E : Type 0} (r : Result T E) (text added kept whole : List �
 on_pushed (Ok x) text added kept whole h e = h ∙ e
 on_pushed (Err x) text added kept whole h e = tt
 
--- what is decoded, or that nothing is
-abbrev IsDecoded : Result (List ℕ) FromHexError → Result (Unit {0}) FromHexError → List ℕ → Type 0
-IsDecoded read result into = MatchResult read (λ bytes. (result ≡ Ok tt) × (into ≡ bytes)) (λ e. result ≡ Err e)
-
+-- what has been decoded into room for it
 pub decoded : (read : Result (List ℕ) FromHexError) (result : Result (Unit {0}) FromHexError) (into : List ℕ)
-    → IsDecoded read result into → (u : Unit {0}) → result ≡ Ok u → read ≡ Ok into
+    → MatchResult read (λ bytes. (result ≡ Ok tt) × (into ≡ bytes)) (λ e. result ≡ Err e) → (u : Unit {0}) → result ≡ Ok u → read ≡ Ok into
 decoded (Ok bytes) result into h u ok = ap Ok (sym h.1)
 decoded (Err e) result into h u ok = cc (h, ok)
-
-pub not_decoded : (read : Result (List ℕ) FromHexError) (result : Result (Unit {0}) FromHexError) (into : List ℕ)
-    → IsDecoded read result into → (e : FromHexError) → result ≡ Err e → (bytes : List ℕ) → read ≡ Ok bytes → ⊥
-not_decoded (Ok bytes) result into h e err other same = cc (h.0, err)
-not_decoded (Err f) result into h e err other same = cc same
 
 pub ascii_digits : (bytes : List ℕ) → IsAscii (encode_upper bytes)
 ascii_digits bytes = IsAscii-encode_with upper_digits bytes (λ i. ltb-true _ 128 (passes (λ c. nat_lt c 128) upper_digits refl refl i))
 
 -- no digit of bytes is a small letter
 pub never_small : (bytes : List ℕ) (i : ℕ) → is_ascii_lowercase (slice_index (encode_upper bytes) i) ≡ false
-never_small bytes i = not_true _ (digits_pass (λ c. if is_ascii_lowercase c then false else true) refl refl bytes i) where
+never_small bytes i = not_true _ (passes capital (encode_upper bytes) (digits_pass capital refl refl bytes) refl i) where
+  capital : ℕ → Bool
+  capital c = if is_ascii_lowercase c then false else true
   not_true : (b : Bool) → (if b then false else true) ≡ true → b ≡ false
   not_true true h = cc h
   not_true false h = refl

@@ -1,6 +1,7 @@
 -- Addresses of six, seven and eight digits: the last digits of four bytes.
-use Rattle.chan_deck.proofs.Names.{address_text, drop, encode_upper, encode_with, le-ltb, List, lt-ltb, refl, STORAGE_LIMIT, take, to_be_bytes, w32, zero, suc, [], ◌∷◌, arith, ℕ, ◌<◌, ◌^◌, ◌≡◌, ◌≤◌}
+use Rattle.chan_deck.proofs.Names.{address_text, drop, encode_upper, encode_with, le-ltb, List, lt-ltb, refl, STORAGE_LIMIT, take, to_be_bytes, w32, arith, ℕ, ◌<◌, ◌^◌, ◌≡◌, ◌≤◌}
 use Rattle.std.proofs.Common.{IsAscii}
+use Rattle.std.proofs.lemmas.Str.{IsAscii-drop, IsAscii-take}
 
 -- the eight digits of a number
 abbrev pub eight_digits : ℕ → List ℕ
@@ -20,16 +21,5 @@ all_eight n low =
     rw (le-ltb n STORAGE_LIMIT above, le-ltb n (2 ^ 28) low) refl
 
 -- a part of characters of ASCII
-ascii_front : (k : ℕ) (xs : List ℕ) → IsAscii xs → IsAscii (take k xs)
-ascii_front zero xs h i = omega arith
-ascii_front (suc k) [] h i = omega arith
-ascii_front (suc k) (x ∷ xs) h zero = h 0
-ascii_front (suc k) (x ∷ xs) h (suc i) = ascii_front k xs (λ j. h (suc j)) i
-
-ascii_rest : (n : ℕ) (xs : List ℕ) → IsAscii xs → IsAscii (drop n xs)
-ascii_rest zero xs h i = h i
-ascii_rest (suc n) [] h i = omega arith
-ascii_rest (suc n) (x ∷ xs) h i = ascii_rest n xs (λ j. h (suc j)) i
-
 pub ascii_part : (k n : ℕ) (xs : List ℕ) → IsAscii xs → IsAscii (take k (drop n xs))
-ascii_part k n xs h = ascii_front k (drop n xs) (ascii_rest n xs h)
+ascii_part k n xs h = IsAscii-take (drop n xs) k (IsAscii-drop xs n h)

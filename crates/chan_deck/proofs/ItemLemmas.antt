@@ -1,6 +1,6 @@
 -- A line says one thing, and has no line feed in it.
 use Rattle.chan_deck.proofs.Names.{[], address_digits, all_append, AllByRecursion, and_parts, ap, Area, area_digits, arith, Bool, byte_digits, bytes_eq-Decides, bytes_high_first, cases_lt, cond, cylinder_digits, D2311, D2314, Decides, Decides-eqb, device, drop, encode_upper, encode_with, end, Err, extent, false, fetch, get_or, HasForm, header, inl, inr, IsAddress, IsArea, IsByte, Item, length, limit, line, LineSays, LineSaysIfAny, List, mask, nat_tests, None, not, not-true, Ok, Option, put, refl, Result, size_digits, Some, start, storage, STORAGE_LIMIT, store, subst, sym, take, true, ℕ, ◌%◌, ◌*◌, ◌++◌, ◌+◌, ◌-◌, ◌/◌, ◌<◌, ◌==◌, ◌^◌, ◌∙◌, ◌∷◌, ◌≡◌, ◌⊎◌}
-use Rattle.std.specs.Prelude.{◌&&◌, codes}
+use Rattle.std.specs.Prelude.{codes}
 use Rattle.hex.specs.Hex.{decode_of}
 use Rattle.hex.specs.declared.error.FromHexError.{FromHexError}
 use Rattle.hex.proofs.HexLemmas.{decode_of-encode_upper}
@@ -8,7 +8,8 @@ use Rattle.chan_deck.specs.Item.{limit_digits}
 use Rattle.chan_deck.specs.declared.version.VersionNumber.TheVariants as numbers
 use Rattle.chan_deck.proofs.Elements.{all_drop}
 use Rattle.chan_deck.proofs.ByteNumbers.{bytes_three, bytes_four}
-use Rattle.chan_deck.proofs.UpperDigits.{bytes_at, encoded_pass, with_zero}
+use Rattle.ccw_core.proofs.UpperDigits.{all_pass, digits_pass}
+use Rattle.chan_deck.proofs.UpperDigits.{bytes_at, with_zero}
 
 -- ---- no line feeds
 
@@ -18,22 +19,15 @@ HasNoFeed l = AllByRecursion (λ b. (b == 10) ≡ false) l
 no_feed-append : (xs ys : List ℕ) → HasNoFeed xs → HasNoFeed ys → HasNoFeed (xs ++ ys)
 no_feed-append xs ys h k = all_append (λ b. (b == 10) ≡ false) xs ys h k
 
-abbrev no_feeds : List ℕ → Bool
-no_feeds [] = true
-no_feeds (b ∷ l) = not (b == 10) && no_feeds l
+abbrev is_other : ℕ → Bool
+is_other b = not (b == 10)
 
-from_test : (l : List ℕ) → no_feeds l ≡ true → HasNoFeed l
+from_test : (l : List ℕ) → all_pass is_other l ≡ true → HasNoFeed l
 from_test [] h = tt
-from_test (b ∷ l) h =
-    let t = and_parts (not (b == 10)) (no_feeds l) h in
-    (not-true (b == 10) t.0, from_test l t.1)
-
-weaker : (l : List ℕ) → AllByRecursion (λ c. not (c == 10) ≡ true) l → HasNoFeed l
-weaker [] h = tt
-weaker (b ∷ l) h = (not-true (b == 10) h.0, weaker l h.1)
+from_test (b ∷ l) h = let t = and_parts (is_other b) (all_pass is_other l) h in (not-true (b == 10) t.0, from_test l t.1)
 
 upper_no_feed : (bytes : List ℕ) → HasNoFeed (encode_upper bytes)
-upper_no_feed bytes = weaker (encode_upper bytes) (encoded_pass (λ c. not (c == 10)) refl refl bytes)
+upper_no_feed bytes = from_test (encode_upper bytes) (digits_pass is_other refl refl bytes)
 
 above_feed : (c : ℕ) → 10 < c → (c == 10) ≡ false
 above_feed c h = grind (arith, nat_tests)

@@ -1,14 +1,7 @@
--- Upper-case hexadecimal digits: how many there are, and none is a line feed.
-use Rattle.chan_deck.proofs.Names.{[], AllByRecursion, ap, arith, Bool, drop, encode_upper, encode_with, IsByte, IsBytes, length, List, not, refl, slice_index, suc, sym, true, upper_digits, zero, ℕ, ◌%◌, ◌*◌, ◌/◌, ◌<◌, ◌==◌, ◌∷◌, ◌≡◌}
+-- Upper-case hexadecimal digits: how many there are, and when the first is a zero.
+use Rattle.chan_deck.proofs.Names.{[], AllByRecursion, ap, arith, drop, encode_upper, encode_with, IsByte, IsBytes, length, List, not, refl, slice_index, suc, sym, true, upper_digits, zero, ℕ, ◌%◌, ◌*◌, ◌/◌, ◌<◌, ◌==◌, ◌∷◌, ◌≡◌}
 use Rattle.hex.proofs.HexLemmas.{length-encode_with}
-use Rattle.ccw_core.proofs.UpperDigits.{all_pass, passes}
-
--- each digit of an encoding passes a test that the sixteen digits pass
-pub encoded_pass : (p : ℕ → Bool) → all_pass p upper_digits ≡ true → p 0 ≡ true
-    → (bytes : List ℕ) → AllByRecursion (λ c. p c ≡ true) (encode_upper bytes)
-unfolding encode_with
-encoded_pass p h z [] = tt
-encoded_pass p h z (b ∷ bytes) = (passes p upper_digits h z (b / 16), (passes p upper_digits h z (b % 16), encoded_pass p h z bytes))
+use Rattle.ccw_core.proofs.UpperDigits.{passes}
 
 -- a list of bytes has a byte at each place
 pub bytes_at : (bytes : List ℕ) → AllByRecursion IsByte bytes → IsBytes bytes

@@ -118,7 +118,7 @@ impl Survey {
 }
 
 /// The same looks, in order of place.
-#[tactic(auto, using(crate::proofs::Algorithms::Sorting::same_looks))]
+#[tactic(auto, using(crate::proofs::Algorithms::Sorting::same_elements))]
 fn in_order(looks: Vec<Look>) -> Vec<Look>
     requires { AreDistinct (places_of_looks looks.items) }
     ensures ordered { IsStrictlyIncreasing (map place_number (places_of_looks result.items)) }

@@ -151,7 +151,7 @@ fn stores_into(areas: &Merged, look: &Look) -> bool
 }
 
 /// The same offences, in order.
-#[tactic(auto, using(crate::proofs::Algorithms::Listing::same_offences))]
+#[tactic(auto, using(crate::proofs::Algorithms::Sorting::same_elements))]
 fn in_order(offences: Vec<Offence>) -> Vec<Offence>
     requires { AreDistinct offences.items }
     ensures ordered { IsStrictlyIncreasing (map listed.offence_number result.items) }

@@ -108,9 +108,6 @@ increasing os ts up moved distinct =
       non_decreasing offence_number,
     )
 
-pub same_offences : (os ts : List Offence) (o : Offence) → IsPermutation os ts → Has ts o ↔ Has os o
-same_offences os ts o moved = search (rules, contains_has, Contains-permutation, IsPermutation-sym, has_contains)
-
 -- ---- place by place
 
 apart_append : {X : Type 0} (xs ys : List X) → AreDistinct xs → AreDistinct ys → ((x : X) → Has xs x → Has ys x → ⊥) → AreDistinct (xs ++ ys)

@@ -51,5 +51,5 @@ increasing cmp ls ms same up moved distinct =
       by_number,
     )
 
-pub same_looks : (ls ms : List Seen) (l : Seen) → IsPermutation ls ms → Has ms l ↔ Has ls l
-same_looks ls ms l moved = search (rules, contains_has, Contains-permutation, IsPermutation-sym, has_contains)
+pub same_elements : {X : Type 0} (xs ys : List X) (x : X) → IsPermutation xs ys → Has ys x ↔ Has xs x
+same_elements xs ys x moved = search (rules, contains_has, Contains-permutation, IsPermutation-sym, has_contains)

@@ -1,8 +1,10 @@
 use Rattle.std.proofs.Common.{ap, arith, length, replicate, slice_index, sym, ℕ, ◌∙◌}
 use Rattle.std.specs.Char.{is_ascii_lowercase}
 use Rattle.std.proofs.lemmas.List.{length-replicate}
+use Rattle.std.specs.Prelude.{is_ok}
 use Rattle.hex.specs.Hex.{decode_sized}
-use Rattle.ccw_core.proofs.UpperDigits.{decoded, never_small, not_decoded, read_well, reads}
+use Rattle.hex.proofs.HexLemmas.{IsOk-written}
+use Rattle.ccw_core.proofs.UpperDigits.{decoded, never_small, read_well, reads}
 use Rattle.ccw_core.proofs.digits.read_digits.Goals as goal
 
 pub returns-then-has_small_letter : goal.returns-then-has_small_letter
@@ -20,5 +22,6 @@ returns-in-Ok g c =
 pub returns-in-Err : goal.returns-in-Err
 returns-in-Err g c = λ bytes len are same.
     let n : ℕ = length (replicate {A = ℕ} g.row.N 0) in
-    not_decoded (decode_sized c.args.digits.now n) c.decode_to_slice.result _ c.decode_to_slice.ensures.value _ c.in-Err.is bytes
-    (ap (λ t. decode_sized t n) same ∙ reads bytes n (len ∙ sym (length-replicate {A = ℕ} g.row.N 0)) are)
+    let read = ap (λ t. decode_sized t n) same ∙ reads bytes n (len ∙ sym (length-replicate {A = ℕ} g.row.N 0)) are in
+    let ok = rw c.in-Err.is at ((IsOk-written _ c.decode_to_slice.result _ c.decode_to_slice.ensures.value).1 (ap is_ok read)) in
+    cc ok
