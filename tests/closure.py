@@ -28,7 +28,7 @@ PROMISED = ["IsSafe", "IsSteady"]
 LAWS = ["StaysWell", "LeastJob", "SupervisedStaysWell"]
 # the words of the contract, and what leads from them down to a run and its events, by file
 QUOTED = {
-    "chan_walk/Answers": ["IsSound", "IsComplete", "IsSoundAmong", "HasWitness"],
+    "chan_walk/Answers": ["IsAnswer", "IsSoundAmong", "HasWitness"],
     "chan_walk/Harm": ["MayHarm", "DoesHarm", "IsHarm"],
     "chan_walk/Headline": "IsSafe IsSteady AreSafe AreSteady IsSafeMoment IsSafeEvent".split(),
     "chan_walk/Runs": ["IsRun"],

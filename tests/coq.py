@@ -5,11 +5,11 @@ the definitions that closure.py counts, prints each back as its file has it, rea
 kit does, and refuses what it doesn't know, with file and line. Kit.v proves the laws of the kit's
 library of what Coq has in its place: each line that it quotes has a goal, over another Prelude.v a
 goal fails, and the comparison with the kit finds each difference of a made-up kit and of a copy. An
-error of a proof is an error of `make coq`. The verifier
-that is proved there says the same as the program over all example decks, random jobs, large decks
-and refused decks; it reports refused memory and a failed write; and what stands in OCaml for two
-functions of Coq gives what these give. Forms that Coq could read otherwise than the kit mean the
-same there. Without Coq the test is left out, by its name.
+error of a proof is an error of `make coq`. The contract that the verifier keeps there is that of
+`verify`, clause by clause. The verifier says the same as the program over all example decks, random
+jobs, large decks and refused decks; it reports refused memory and a failed write; and what stands
+in OCaml for two functions of Coq gives what these give. Forms that Coq could read otherwise than
+the kit mean the same there. Without Coq the test is left out, by its name.
 """
 
 import os
@@ -22,7 +22,7 @@ from random import Random
 
 from answers import MOST_BYTES
 from building import ROOT, short
-from closure import CRATES, Sources, statements
+from closure import CRATES, Sources, contract, statements
 from coq_forms import FORMS, NAMES, VALUES, definitions_of_pairs, translated, write_crate
 from coq_meanings import OF_COQ
 from coq_reading import differs, wrong_files, wrong_readings
@@ -42,10 +42,20 @@ from kit import TEXTS as OF_THE_KIT, differences_to  # noqa: E402
 from translate import FIXITY, Translation  # noqa: E402
 
 TOOLS = ["coqc", "coq_makefile", "ocamlopt", "make"]
+CONTRACT = HERE / "Contract.v"
 PROGRAM = ROOT / "out/coq/chanv-coq"
 JOBS = 2000
 # seconds of a processor that a deck may take, with 65,536 places and with 16 MiB of storage
 MOST = {"places-65536": 10, "chain-in-full-storage": 10}
+
+# words of a clause of the contract of verify, and what Contract.v has in their place
+OF_CONTRACT = {
+    "IfOk result": "IfOk answer",
+    "result ≡ Err WalkError.": "answer = inr ",
+    "→": "->",
+    "job.now.limit": "(Job_limit j)",
+    "job.now": "j",
+}
 
 # the files of laws, and how many reasons a no can have
 LAWS = ["chan_walk/src/laws.rt", "chan_needs/src/laws.rt"]
@@ -119,6 +129,17 @@ def check_laws(checks, said):
     unfinished = r"\b(Axiom|Parameter|Conjecture|Admitted|admit|give_up)\b"
     for path in sorted(HERE.glob("*.v")):
         checks.expect(f"what {short(path)} leaves open", [], re.findall(unfinished, text_of(path)))
+
+
+def check_contract(checks):
+    """KeepsContract of Contract.v has the clauses of the contract of verify, and no other."""
+    said = contract()
+    for word, other in OF_CONTRACT.items():
+        said = said.replace(word, other)
+    clauses = re.findall(r"ensures (\w+) \{ (.*) \}", said)
+    checks.expect("clauses of verify, a line each", contract().count("ensures"), len(clauses))
+    [record] = re.findall(r"(?s)\nRecord KeepsContract .*? := \{\n(.*?) \}\.", text_of(CONTRACT))
+    checks.expect("KeepsContract", clauses, re.findall(r"keeps_(\w+) : (.*?)(?:;\n|$)", record))
 
 
 def check_marks(checks):
@@ -381,6 +402,7 @@ def check(checks, built):
     if ran.status:
         raise CannotRun(f"make coq\n{ran.output}{ran.error}")
     check_laws(checks, ran.output)
+    check_contract(checks)
     check_marks(checks)
     check_translation(checks)
     checks.expect("readings that aren't the kit's", [], [*wrong_readings()])

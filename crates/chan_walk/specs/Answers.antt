@@ -10,12 +10,8 @@ use Rattle.chan_walk.specs.Places.{AreReachable, HasMoreThan}
 use Rattle.chan_walk.specs.Headline.{IsSafe, IsSafeAmong, IsSteady, IsSteadyAmong}
 use Rattle.chan_walk.specs.Verdict.{IsVerdict}
 
--- sound: a yes covers every run, so that each is safe and the job is steady
-abbrev pub IsSound : Job → Verdict → Type 0
-IsSound j v = v ≡ Yes → IsSafe j × IsSteady j
-
--- sound among others: a yes covers also every run during which others change any bytes of storage
--- but the guarded ones
+-- sound among others: a yes covers every run during which others change any bytes of storage but
+-- the guarded ones, so that each is safe and the job is steady
 abbrev pub IsSoundAmong : Job → Verdict → Type 0
 IsSoundAmong j v = v ≡ Yes → IsSafeAmong j × IsSteadyAmong j
 
@@ -24,10 +20,6 @@ IsSoundAmong j v = v ≡ Yes → IsSafeAmong j × IsSteadyAmong j
 abbrev pub HasWitness : Job → Verdict → Type 0
 HasWitness j Yes = Unit {0}
 HasWitness j (No a r) = (p : Place) × (p.address ≡ a) × IsShownAt j p r × MayHarm j
-
--- complete: the answer is yes wherever every run is safe and the job is steady
-abbrev pub IsComplete : Job → Verdict → Type 0
-IsComplete j v = IsSafe j → IsSteady j → v ≡ Yes
 
 -- there are n reachable places or fewer
 pub record HasAtMost (j : Job) (n : ℕ) : Type 0 where

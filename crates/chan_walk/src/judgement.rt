@@ -1,13 +1,11 @@
 //! Judging a job: one walk over all places that its program can come to, and all that follows
 //! from it.
 
-ghost use Rattle.std.specs.Prelude.{◌≡◌, IfOk, OnOk};
-ghost use Rattle.chan_walk.specs.Answers.{HasAtMost, HasWitness, IsAnswer, IsComplete, IsSound};
-ghost use Rattle.chan_walk.specs.Answers.{IsSoundAmong};
+ghost use Rattle.std.specs.Prelude.{◌≡◌, IfOk};
+ghost use Rattle.chan_walk.specs.Answers.{IsAnswer};
 ghost use Rattle.chan_walk.specs.Places.{HasMoreThan};
 ghost use Rattle.chan_walk.specs.Offence.{first_verdict};
 ghost use Rattle.chan_walk.specs.JobSurvey.{IsSurvey};
-ghost use Rattle.chan_walk.specs.Verdict.{IsVerdict};
 
 use crate::guard::Guard;
 use crate::job::Job;
@@ -73,17 +71,7 @@ pub fn survey(alloc: Global, job: &Job) -> Result<Survey, WalkError>
 ///
 /// With n places and a lent areas, the cost is (n + a) log (n + a).
 pub fn verify(alloc: Global, job: &Job) -> Result<Verdict, WalkError>
-    ensures verdict { IfOk result (IsVerdict job.now) }
-
-    // A yes covers every run, also among others that change no guarded byte, a no is no false
-    // alarm, and no safe and steady job is refused.
-    ensures safe { IfOk result (IsSound job.now) }
-    ensures among { IfOk result (IsSoundAmong job.now) }
-    ensures shown { IfOk result (HasWitness job.now) }
-    ensures exact { IfOk result (IsComplete job.now) }
-
-    // There is an answer only up to the limit, and too many places only above it.
-    ensures few { OnOk result (HasAtMost job.now job.now.limit) }
+    ensures answer { IfOk result (IsAnswer job.now) }
     ensures many { result ≡ Err WalkError.TooManyPlaces → HasMoreThan job.now job.now.limit }
 {
     Ok(survey(alloc, job)?.verdict())

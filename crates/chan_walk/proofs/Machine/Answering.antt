@@ -1,11 +1,13 @@
 -- What the laws say of a job's verdict.
 use Rattle.chan_walk.proofs.Names.{arith, HasFound, map, place_number, HasMask, IsProper, IsVerdict, Job, List, No, NoFalseAlarm, NoIsHarm, places_of_looks, refl, Seen, subst, Verdict, Yes, YesIsSafe, YesIsSafeAmong, ℕ, ◌≡◌}
-use Rattle.chan_walk.specs.Answers.{HasAtMost, HasWitness, IsSound, IsSoundAmong}
+use Rattle.chan_walk.specs.Answers.{HasAtMost, HasWitness, IsSoundAmong}
+use Rattle.chan_walk.specs.Headline.{IsSafe, IsSteady}
 use Rattle.std.proofs.lemmas.Map.Keys.{IsStrictlyIncreasing-from_sorted}
 use Rattle.chan_walk.proofs.Algorithms.InOrder.{as_many, in_order, ordered, same_places}
 use Rattle.chan_walk.proofs.Algorithms.Walking.{all_found}
 
-pub covers : (j : Job) (v : Verdict) → HasMask j → YesIsSafe → IsVerdict j v → IsSound j v
+pub covers : (j : Job) (v : Verdict) → HasMask j → YesIsSafe → IsVerdict j v
+    → v ≡ Yes → IsSafe j × IsSteady j
 covers j v mask law h e = law j mask (subst (λ (w : Verdict). IsVerdict j w) e h)
 
 pub covers_among : (j : Job) (v : Verdict) → HasMask j → YesIsSafeAmong → IsVerdict j v → IsSoundAmong j v
