@@ -36,22 +36,19 @@ run: libraries
 can_prove can_link can_test can_coq can_rustc:
 	@KIT='$(KIT)' CC='$(CC)' CROSS='$(CROSS)' tests/tools $(@:can_%=%)
 
-# Two libraries are built at a time, and chan_args, which takes one processor, beside them.
-libraries: can_prove
-	$(MAKE) --no-print-directory --jobs=3 $(LIBRARIES)
+# One at a time: while rt is at work on a crate, nobody else may be on one that it stands on.
+libraries: can_prove $(LIBRARIES)
 
 $(LIBRARIES):
 	cd crates/$@ && rt lib --jobs $(JOBS)
 
-# Each is built after those that it stands on. For ckd_core, chan_args and chan_find, which are small,
-# one processor is enough beside the others.
+# Each is built after those that it stands on.
 chan_areas: ccw_core
 chan_walk: chan_areas ckd_core
 chan_needs chan_why chan_find: chan_walk
 chan_args: ccw_core ckd_core
 chan_deck: chan_needs chan_why
 chan_run: chan_args chan_find chan_deck
-ckd_core chan_args chan_find: private JOBS = 1
 
 # Explains the verdict on a deck, with nothing proved: it compiles the sources as they are. The status
 # of a *no* is 1, and so is that of `rt` if nothing compiles, so that the verdict has to be there.
