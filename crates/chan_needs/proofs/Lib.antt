@@ -3,6 +3,7 @@ pub mod Needing
 pub mod Masking
 pub mod Asking
 pub mod SideBySide
+pub mod Conflicting
 pub mod History
 pub mod Remembering
 pub mod Beginning

@@ -1,11 +1,12 @@
 -- Programs that run side by side on one storage.
-use Rattle.std.specs.Prelude.{◌≡◌, List, [], ◌∷◌, map, ◌⊎◌}
+use Rattle.std.specs.Prelude.{◌≡◌, ℕ, List, [], ◌∷◌, map, ◌⊎◌}
 use Rattle.std.specs.List.{AllByRecursion}
 use Rattle.chan_walk.specs.declared.job.Job.{Job}
 use Rattle.chan_walk.specs.declared.verdict.Verdict.TheVariants.{Yes}
+use Rattle.chan_walk.specs.Alarm.{IsProper, IsUsed}
 use Rattle.chan_walk.specs.Guarded.{IsGuarded}
-use Rattle.chan_walk.specs.Headline.{IsSafeMoment}
-use Rattle.chan_walk.specs.Job.{HasMask}
+use Rattle.chan_walk.specs.Headline.{HoldsInitialByte, IsSafeMoment}
+use Rattle.chan_walk.specs.Job.{storage_of, HasMask}
 use Rattle.chan_walk.specs.Runs.{Moment, IsStart, Steps, Waits}
 use Rattle.chan_walk.specs.Verdict.{IsVerdict, MayStoreOver}
 
@@ -45,6 +46,15 @@ SafeSideBySide =
     → AreRunning j k run
     → AllByRecursion (IsSafeMoment j) (moments_of_one run)
     × AllByRecursion (IsSafeMoment k) (moments_of_other run)
+
+-- where one of two programs may store over a byte that is guarded by the other, some run of both
+-- changes a byte that the other uses
+abbrev pub ConflictIsHarm : Type 0
+ConflictIsHarm =
+    (j k : Job) → IsProper j → IsProper k → storage_of j ≡ storage_of k → IsVerdict j Yes
+    → MayStoreOver j (IsGuarded k)
+    → (run : List TwoMoments) × (m : TwoMoments) × (b : ℕ) × AreRunning j k (m ∷ run)
+    × IsUsed k b × (HoldsInitialByte k b m.other → ⊥)
 
 -- any two programs may run side by side, each from its start, by the steps of either
 pub record MayRunTogether : Type 0 where

@@ -1,7 +1,7 @@
 //! The laws of needs, of programs side by side, and of a supervisor: each is the contract of a
 //! function that does nothing, so that it is proved.
 
-ghost use Rattle.chan_needs.specs.SideBySide.{MayRunTogether, SafeSideBySide};
+ghost use Rattle.chan_needs.specs.SideBySide.{ConflictIsHarm, MayRunTogether, SafeSideBySide};
 ghost use Rattle.chan_needs.specs.History.{GoesOnToStorage, StaysWell};
 ghost use Rattle.chan_needs.specs.Needs.{AskedOnce, LeastJob, NeededMaskIsEnough, NeededMaskIsOne};
 ghost use Rattle.chan_needs.specs.Needs.{NoJobWillDo, OpenJobGrantsMore, SafeIsGranted};
@@ -25,6 +25,13 @@ pub(crate) fn stays_well()
 #[tactic(auto, using(crate::proofs::SideBySide::safe_side_by_side))]
 pub(crate) fn safe_side_by_side()
     ensures { SafeSideBySide }
+{}
+
+/// Where one of two programs may store over a byte that is guarded by the other, some run of both
+/// changes a byte that the other uses: to refuse such a pair is no false alarm.
+#[tactic(auto, using(crate::proofs::Conflicting::conflict_is_harm))]
+pub(crate) fn conflict_is_harm()
+    ensures { ConflictIsHarm }
 {}
 
 /// Any two programs may run side by side, by steps of either.

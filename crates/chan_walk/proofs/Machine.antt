@@ -4,6 +4,7 @@ pub mod Storing
 pub mod Invariant
 pub mod Waiting
 pub mod Yes
+pub mod Real
 pub mod Quiet
 pub mod Paths
 pub mod Operations

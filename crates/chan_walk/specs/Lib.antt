@@ -17,6 +17,7 @@ pub mod Runs
 pub mod Headline
 pub mod Alarm
 pub mod Harm
+pub mod RealRuns
 pub mod VerdictBytes
 pub mod Order
 pub mod OpenJob

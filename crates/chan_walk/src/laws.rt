@@ -14,6 +14,7 @@ ghost use Rattle.chan_walk.specs.Headline.{YesIsSafe, YesIsSafeAmong};
 ghost use Rattle.chan_walk.specs.Offence.{FirstIsVerdict};
 ghost use Rattle.chan_walk.specs.OpenJob.{MoreIsYes, OpenJobIsOpen, SameUnderYes};
 ghost use Rattle.chan_walk.specs.Order.{NumbersIncrease};
+ghost use Rattle.chan_walk.specs.RealRuns.{EachRunIsReal, YesIsSafeForReal};
 ghost use Rattle.chan_walk.specs.Verdict.{OneVerdict};
 
 /// Where the verdict is yes, guarded bytes never change, in any run among others.
@@ -46,6 +47,20 @@ pub(crate) fn yes_is_safe()
 #[tactic(auto, using(crate::proofs::Machine::Yes::yes_is_safe_among))]
 pub(crate) fn yes_is_safe_among()
     ensures { YesIsSafeAmong }
+{}
+
+/// Where the verdict is yes and the mask is valid, every run for real is safe, and the job is
+/// steady in these runs: the channel may fetch early, and store late and in pieces, and a seek that
+/// fails may leave the arm anywhere.
+#[tactic(auto, using(crate::proofs::Machine::Real::yes_is_safe_for_real))]
+pub(crate) fn yes_is_safe_for_real()
+    ensures { YesIsSafeForReal }
+{}
+
+/// Each run among others is a run for real.
+#[tactic(auto, using(crate::proofs::Machine::Real::each_run_is_real))]
+pub(crate) fn each_run_is_real()
+    ensures { EachRunIsReal }
 {}
 
 /// Each path is the places of a run that begins at the first cylinder of the first extent and

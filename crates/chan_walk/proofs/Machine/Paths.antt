@@ -9,7 +9,7 @@ use Rattle.chan_walk.proofs.Machine.Invariant.{chained_out}
 use Rattle.chan_walk.proofs.Machine.Quiet.{full_count, IsFew, kind_at, bytes_at, Left, seek_at, carry_out}
 use Rattle.chan_walk.proofs.Machine.Yes.{fresh_out}
 
-first_inside : (es : List (ℕ × ℕ)) → AreExtents es → has_cylinder es (first_cylinder es) ≡ true
+pub first_inside : (es : List (ℕ × ℕ)) → AreExtents es → has_cylinder es (first_cylinder es) ≡ true
 unfolding has_cylinder
 first_inside es h = search (rules, or_left, and_from, le-leb)
 

@@ -10,7 +10,7 @@ use Rattle.chan_walk.proofs.Theory.Faults.{IsGood, clear_check, clear_good, yes_
 use Rattle.chan_walk.proofs.Theory.Follows.{FollowsBy, by_transfer, succeeds}
 use Rattle.chan_walk.proofs.Machine.Gathering.{advance, transfer_on, begin}
 use Rattle.chan_walk.proofs.Machine.Invariant.{Under, IsStageKept, Same, Invariant, Coming, SeekComes, Here, Stepped, carried_ok}
-use Rattle.chan_walk.proofs.Machine.Storing.{CcwStoresAt, step_only}
+use Rattle.chan_walk.proofs.Machine.Storing.{CcwStoresAt, step_only, StoresAt, stores_there}
 use Rattle.chan_walk.proofs.Machine.Waiting.{WaitsSpared, waits_kept}
 use Rattle.chan_walk.proofs.Theory.Lists.{all_map}
 use Rattle.chan_walk.proofs.Theory.Masks.{strict_as_itself}
@@ -128,7 +128,7 @@ module _ (j : Job) (v : IsVerdict j Yes) where
       let t' : is_transfer (ccw_of j p) ≡ false = ap is_transfer (sym c) ∙ t in
       carried_ok j p (ccw s p.address) g (subst (λ z. Here j p z g) (sym c) (here_at p g k.stage.0 k.stage.1 t')) k t le mv sk hm fm gs
 
-  from_ok : {s : List ℕ} {y f : ℕ} (at : Stage) {es : List Event} {t : List ℕ} {y' f' : ℕ} {st : Stage}
+  pub from_ok : {s : List ℕ} {y f : ℕ} (at : Stage) {es : List Event} {t : List ℕ} {y' f' : ℕ} {st : Stage}
       → StepFrom s y f at es t y' f' st → Invariant j s y f at → Stepped j t y' f' st es
   from_ok at w k = search (rules, step_ok)
 
@@ -144,20 +144,29 @@ module _ (j : Job) (v : IsVerdict j Yes) where
   step_spares P never s y f Ended es t y' f' st w k = absurd w
   step_spares P never s y f (Checked r) es t y' f' st w k = absurd w
 
+  -- a step shows no store over a guarded byte
+  pub shows_spared : (s : List ℕ) (y f : ℕ) (at : Stage) (es : List Event) (t : List ℕ) (y' f' : ℕ) (st : Stage)
+      → StepFrom s y f at es t y' f' st → Invariant j s y f at → (b : ℕ) → IsGuarded j b → StoresAt es b → ⊥
+  shows_spared s y f (At p g) es t y' f' st w k b guarded shows =
+      apart_at (IsGuarded j) no_change p k.stage.0 b guarded
+      (subst (λ c. CcwStoresAt p c b) (ccw_kept s p k.same k.stage.0) (stores_there w b shows))
+  shows_spared s y f Ended es t y' f' st w k b guarded shows = w
+  shows_spared s y f (Checked r) es t y' f' st w k b guarded shows = w
+
   -- ---- a run
 
   -- what is known of each moment
   abbrev pub IsOk : Moment → Type 0
   IsOk m = Stepped j m.storage m.arm m.mask m.stage m.events
 
-  without_events : (m : Moment) → m.events ≡ [] → Invariant j m.storage m.arm m.mask m.stage → IsOk m
+  pub without_events : (m : Moment) → m.events ≡ [] → Invariant j m.storage m.arm m.mask m.stage → IsOk m
   without_events m e k = record {
     kept = k;
     safe = subst (λ es. AllByRecursion (IsSafeEvent j) es) (sym e) tt;
     used = λ b u. absurd (subst (λ es. UsesIn es b) e u);
   }
 
-  start_ok : (m : Moment) → IsStart j m → IsOk m
+  pub start_ok : (m : Moment) → IsStart j m → IsOk m
   start_ok m r = without_events m r.events (record {
     same_length = ap length r.storage;
     same = λ b g. ap (λ z. byte z b) r.storage;
@@ -180,28 +189,38 @@ module _ (j : Job) (v : IsVerdict j Yes) where
       → (ms : List Moment) → IsSpared j ms → AllByRecursion P ms
   all_kept P f ms r = all_map IsOk P (λ m k. f m k.kept) ms (each_ok ms r)
 
-  unchecked : (st : Stage) → IsStageKept j st → MeetsNoProgramCheck st
+  pub unchecked : (st : Stage) → IsStageKept j st → MeetsNoProgramCheck st
   unchecked st k = search rules
 
   is_safe : HasMask j → (m : Moment) → IsOk m → IsSafeMoment j m
   is_safe h m k = record { unchecked = unchecked m.stage k.kept.stage; inside = k.kept.inside; strict = k.kept.strict h; events = k.safe }
 
-  -- each byte that a run uses is guarded
+  -- each byte that a run uses is guarded, if each moment uses only guarded ones
+  abbrev pub UsesGuarded : Moment → Type 0
+  UsesGuarded m = (b : ℕ) → UsesAt m.storage m.stage b ⊎ UsesIn m.events b → IsGuarded j b
+
   used_at : (s : List ℕ) (st : Stage) (b : ℕ) → length s ≡ length (storage_of j) → IsStageKept j st → UsesAt s st b → IsGuarded j b
   used_at s st b n k u = search rules
 
-  in_ccw_guarded : (ms : List Moment) (b : ℕ) → AllByRecursion IsOk ms → UsesInCcw ms b → IsGuarded j b
+  pub uses_guarded : (y : ℕ) (m : Moment) → Stepped j m.storage y m.mask m.stage m.events → UsesGuarded m
+  uses_guarded y m k b (inl u) = used_at m.storage m.stage b k.kept.same_length k.kept.stage u
+  uses_guarded y m k b (inr u) = k.used b u
+
+  in_ccw_guarded : (ms : List Moment) (b : ℕ) → AllByRecursion UsesGuarded ms → UsesInCcw ms b → IsGuarded j b
   in_ccw_guarded [] b k u = absurd u
-  in_ccw_guarded (m ∷ ms) b k (inl u) = used_at m.storage m.stage b k.0.kept.same_length k.0.kept.stage u
+  in_ccw_guarded (m ∷ ms) b k (inl u) = k.0 b (inl u)
   in_ccw_guarded (m ∷ ms) b k (inr u) = in_ccw_guarded ms b k.1 u
 
-  in_argument_guarded : (ms : List Moment) (b : ℕ) → AllByRecursion IsOk ms → UsesInArgument ms b → IsGuarded j b
+  in_argument_guarded : (ms : List Moment) (b : ℕ) → AllByRecursion UsesGuarded ms → UsesInArgument ms b → IsGuarded j b
   in_argument_guarded [] b k u = absurd u
-  in_argument_guarded (m ∷ ms) b k (inl u) = k.0.used b u
+  in_argument_guarded (m ∷ ms) b k (inl u) = k.0 b (inr u)
   in_argument_guarded (m ∷ ms) b k (inr u) = in_argument_guarded ms b k.1 u
 
+  pub all_guarded : (ms : List Moment) (b : ℕ) → AllByRecursion UsesGuarded ms → Uses ms b → IsGuarded j b
+  all_guarded ms b k h = search (rules, in_ccw_guarded, in_argument_guarded)
+
   pub used_guarded : (ms : List Moment) (b : ℕ) → AllByRecursion IsOk ms → Uses ms b → IsGuarded j b
-  used_guarded ms b k h = search (rules, in_ccw_guarded, in_argument_guarded)
+  used_guarded ms b k h = all_guarded ms b (all_map IsOk UsesGuarded (λ m k. uses_guarded m.arm m k) ms k) h
 
   at_reachable : (st : Stage) → IsStageKept j st → IsAtReachable j st
   at_reachable st k = search rules
