@@ -49,4 +49,7 @@ can_be_supervised = record {
   );
   written = λ area s t len same. record { same_length = len; same = same };
   check_write = λ v t area fs lists answer written. record { area = area; in_flight = fs; lists = lists; answer = answer; written = written };
+  starts_beside = λ f v w i s has waits. inl (i, inl (s, has), waits);
+  goes_on_beside = λ f v w i goes waits. inl (i, inr goes, waits);
+  writes_beside = λ f v w m has waits. inr (m, has, waits);
 }

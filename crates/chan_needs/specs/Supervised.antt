@@ -115,9 +115,25 @@ pub record SupervisedGoesOn : Type 0 where
       → MayWrite v t
       → (w : Supervision) × (w.situation.storage ≡ t) × IsSupervised (w ∷ v ∷ before)
 
+-- a program starts, and the question whether it may was about a list with f
+abbrev pub StartsBeside : Remembered → Supervision → Supervision → ℕ → Type 0
+StartsBeside f v w i = (s : ProgramStartsAt v w i) × Has s.allowed.in_flight f
+
+-- others write, and the question whether they may was about a list with f
+abbrev pub WritesBeside : Remembered → Supervision → Supervision → Type 0
+WritesBeside f v w =
+    (m : MayWrite v w.situation.storage) × Has m.in_flight f × ((k : ℕ) → ProgramWaitsAt v w k)
+
+-- supervision goes on, and each question is about a list with f
+abbrev pub GoesOnBeside : Remembered → Supervision → Supervision → Type 0
+GoesOnBeside f v w =
+    ((i : ℕ) × (StartsBeside f v w i ⊎ ProgramGoesOnAt v w i)
+    × ((k : ℕ) → (k ≡ i) ⊎ ProgramWaitsAt v w k))
+    ⊎ WritesBeside f v w
+
 -- none of these laws is about nothing: supervision begins over any storage; what is remembered,
--- listed, allowed and written follows from its parts; and who lists all that is remembered lists
--- each program in flight
+-- listed, allowed and written follows from its parts; who lists all that is remembered lists each
+-- program in flight; and supervision goes on beside each program that the questions are about
 pub record CanBeSupervised : Type 0 where
   pub begins :
       (s : List ℕ) → (v : Supervision) × (v.situation.storage ≡ s) × IsSupervised (v ∷ [])
@@ -143,24 +159,16 @@ pub record CanBeSupervised : Type 0 where
       (v : Supervision) (t : List ℕ) (area : Area) (fs : List Remembered)
       → ListsRemembered v.programs fs → IsKeeperOf fs area None
       → IsWritten area v.situation.storage t → MayWrite v t
-
--- ---- a row that stays in the table
-
--- a program starts, and the question whether it may was about a list with f
-abbrev pub StartsBeside : Remembered → Supervision → Supervision → ℕ → Type 0
-StartsBeside f v w i = (s : ProgramStartsAt v w i) × Has s.allowed.in_flight f
-
--- others write, and the question whether they may was about a list with f
-abbrev pub WritesBeside : Remembered → Supervision → Supervision → Type 0
-WritesBeside f v w =
-    (m : MayWrite v w.situation.storage) × Has m.in_flight f × ((k : ℕ) → ProgramWaitsAt v w k)
-
--- supervision goes on, and each question is about a list with f
-abbrev pub GoesOnBeside : Remembered → Supervision → Supervision → Type 0
-GoesOnBeside f v w =
-    ((i : ℕ) × (StartsBeside f v w i ⊎ ProgramGoesOnAt v w i)
-    × ((k : ℕ) → (k ≡ i) ⊎ ProgramWaitsAt v w k))
-    ⊎ WritesBeside f v w
+  pub starts_beside :
+      (f : Remembered) (v w : Supervision) (i : ℕ) (s : ProgramStartsAt v w i)
+      → Has s.allowed.in_flight f → ((k : ℕ) → (k ≡ i) ⊎ ProgramWaitsAt v w k)
+      → GoesOnBeside f v w
+  pub goes_on_beside :
+      (f : Remembered) (v w : Supervision) (i : ℕ) → ProgramGoesOnAt v w i
+      → ((k : ℕ) → (k ≡ i) ⊎ ProgramWaitsAt v w k) → GoesOnBeside f v w
+  pub writes_beside :
+      (f : Remembered) (v w : Supervision) (m : MayWrite v w.situation.storage)
+      → Has m.in_flight f → ((k : ℕ) → ProgramWaitsAt v w k) → GoesOnBeside f v w
 
 -- ---- a write that lasts, such as a tape's input into a buffer
 

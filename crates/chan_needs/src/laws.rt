@@ -185,8 +185,8 @@ pub(crate) fn lasting_keeps()
 {}
 
 /// The laws on supervision aren't empty: it begins over any storage; what is remembered, listed,
-/// allowed and written follows from its parts; and a list of all that is remembered has each
-/// program in flight.
+/// allowed and written follows from its parts; a list of all that is remembered has each program in
+/// flight; and supervision goes on beside each program that the questions are about.
 #[tactic(auto, using(crate::proofs::Possible::can_be_supervised))]
 pub(crate) fn can_be_supervised()
     ensures { CanBeSupervised }

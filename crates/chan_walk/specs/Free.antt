@@ -1,7 +1,7 @@
 -- What the machine leaves free: whatever the device gives, and wherever arm, mask and program may
 -- go, some step does just that. So no law holds because the machine does too little.
-use Rattle.std.specs.Prelude.{◌≡◌, ℕ, ◌+◌, ◌<◌, ◌≤◌, true, false, if◌then◌else◌, List, ◌++◌, take}
-use Rattle.std.specs.Prelude.{drop, length, Some, None, ◌⊎◌, ◌==◌}
+use Rattle.std.specs.Prelude.{◌≡◌, ℕ, ◌+◌, ◌<◌, ◌≤◌, true, false, if◌then◌else◌, List, [], ◌∷◌}
+use Rattle.std.specs.Prelude.{◌++◌, take, drop, length, Some, None, ◌⊎◌, ◌==◌}
 use Rattle.std.specs.List.{AllByRecursion}
 use Rattle.ccw_core.specs.Ccw.{byte, Fields, ccw, is_transfer, skips, chains_data}
 use Rattle.ckd_core.specs.declared.command.Kind.{Kind}
@@ -9,6 +9,7 @@ use Rattle.ckd_core.specs.declared.command.Kind.TheVariants.{Idle, Inward, Outwa
 use Rattle.ckd_core.specs.Mask.{is_mask}
 use Rattle.ckd_core.specs.Track.{cylinder_of}
 use Rattle.chan_walk.specs.declared.job.Job.{Job}
+use Rattle.chan_walk.specs.declared.place.Entry.TheVariants.{Fresh}
 use Rattle.chan_walk.specs.declared.place.Place.{Place}
 use Rattle.chan_walk.specs.declared.setting.Setting.{Setting}
 use Rattle.chan_walk.specs.declared.setting.Setting.TheVariants.{Arm, Mask}
@@ -18,7 +19,7 @@ use Rattle.chan_walk.specs.Fault.{begins_set_mask}
 use Rattle.chan_walk.specs.Job.{storage_of}
 use Rattle.chan_walk.specs.Machine.{Gathered, Stage, At, Ended, Checked, Event, Fetch, MovesData}
 use Rattle.chan_walk.specs.Machine.{Step, Store, under_way, with_taken}
-use Rattle.chan_walk.specs.Place.{ccw_of, is_fresh}
+use Rattle.chan_walk.specs.Place.{ccw_of, is_fresh, straight_to}
 use Rattle.chan_walk.specs.ProgramCheck.{program_check}
 use Rattle.chan_walk.specs.Setting.{IsSetting}
 use Rattle.chan_walk.specs.Successor.{next_of, skip_of}
@@ -110,6 +111,21 @@ MachineIsFree =
     → (stage : Stage) → MayComeTo s p g (length bytes) stage
     → CanStep s y f p g
     (moved_into (kind_of p.entered (ccw s p.address)) (ccw s p.address) bytes s) z h stage
+
+-- a seek at address 0 with command chaining, and its argument behind it: cylinder 10, head 0
+abbrev pub one_seek : List ℕ
+one_seek =
+    7 ∷ 0 ∷ 0 ∷ 8 ∷ 64 ∷ 0 ∷ 0 ∷ 6 ∷ 0 ∷ 0 ∷ 0 ∷ 10 ∷ 0 ∷ 0 ∷ 0 ∷ 0 ∷ []
+
+-- all that the law on the free machine asks for holds of this seek, when it takes its argument: the
+-- arm goes to cylinder 10, and the program to the next CCW
+pub record SeekIsFree : Type 0 where
+  pub carried : CarriesOutCcw one_seek (straight_to 0 Fresh)
+  pub unfinished : IsUnfinished None
+  pub moves : MayMove (kind_of Fresh (ccw one_seek 0)) (ccw one_seek 0) 6
+  pub arm : (y : ℕ) → MayStandAt one_seek (straight_to 0 Fresh) None 6 y 10
+  pub mask : (f : ℕ) → MayBeMask one_seek (straight_to 0 Fresh) 6 f f
+  pub goes_on : MayComeTo one_seek (straight_to 0 Fresh) None 6 (At (straight_to 8 Fresh) None)
 
 -- what is stored is there afterwards
 abbrev pub StoredIsThere : Type 0

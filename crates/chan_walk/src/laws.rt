@@ -7,7 +7,7 @@ ghost use Rattle.chan_walk.specs.VerdictBytes.{FaultyStartIsAll, SafeSinceAsked,
 ghost use Rattle.chan_walk.specs.VerdictBytes.{VerdictByteIsGuarded};
 ghost use Rattle.chan_walk.specs.VerdictBytes.{YesByGuarded, YesStays};
 ghost use Rattle.chan_walk.specs.Answers.{FewIsNotMany};
-ghost use Rattle.chan_walk.specs.Free.{MachineIsFree, SettingCanBe, StoredIsThere};
+ghost use Rattle.chan_walk.specs.Free.{MachineIsFree, SeekIsFree, SettingCanBe, StoredIsThere};
 ghost use Rattle.chan_walk.specs.Harm.{HarmlessIsSafe, NoIsHarm, ShownBreaks};
 ghost use Rattle.chan_walk.specs.Headline.{GathersArguments, GuardedStays, StaysReachable};
 ghost use Rattle.chan_walk.specs.Headline.{YesIsSafe, YesIsSafeAmong};
@@ -83,6 +83,13 @@ pub(crate) fn each_path_shows()
 #[tactic(auto, using(crate::proofs::Machine::Free::machine_is_free))]
 pub(crate) fn machine_is_free()
     ensures { MachineIsFree }
+{}
+
+/// All that `machine_is_free` asks for holds of a seek at address 0 that takes its argument: the
+/// arm goes to cylinder 10, and the program to the next CCW.
+#[tactic(auto, using(crate::proofs::Machine::Free::seek_is_free))]
+pub(crate) fn seek_is_free()
+    ensures { SeekIsFree }
 {}
 
 /// What is stored is in storage afterwards.

@@ -1,5 +1,5 @@
 -- Each thing that the machine leaves free is done by some step.
-use Rattle.chan_walk.proofs.Names.{[], AllByRecursion, ap, argument, arith, At, begins_recalibrate, begins_seek, begins_set_mask, BeginsAt, Bool, byte, carried, cases_Bool, cases_lt, ccw, ccw_of, chains_data, Checked, command_event, common_steps, Continues, cylinder_of, Ended, ends, Event, false, Fetch, Fields, Gather, Gathered, has_count, home, home_stays, Idle, idle, if◌then◌else◌, inl, inr, Inward, is_mask, is_transfer, Job, joined, Kind, kind_of, length, List, map, mask_stays, MovesData, no_byte, no_home, no_mask, None, none, Operand, IsOperand, length-map-range_with_len, next_of, skip_of, Option, Outward, part, Place, range_with_len, refl, rules, Search, searched, Seek, SetMask, skipped, skips, Some, Stage, stays, storage_of, Store, stored, subst, suc, sym, taken, Track, track_of, true, under_way, with_taken, written, zero, ℕ, ◌++◌, ◌+◌, ◌<◌, ◌==◌, ◌∙◌, ◌∷◌, ◌≡◌, ◌≤◌, ◌⊎◌}
+use Rattle.chan_walk.proofs.Names.{[], AllByRecursion, ap, argument, arith, At, begins_recalibrate, begins_seek, begins_set_mask, BeginsAt, Bool, byte, carried, cases_Bool, cases_lt, ccw, ccw_of, chains_data, Checked, command_event, common_steps, Continues, cylinder_of, Ended, ends, Event, false, Fetch, Fields, Fresh, Gather, Gathered, has_count, home, home_stays, Idle, idle, if◌then◌else◌, inl, inr, Inward, is_mask, is_transfer, IsOperand, Job, joined, Kind, kind_of, length, length-map-range_with_len, List, map, mask_stays, MovesData, next_of, no_byte, no_home, no_mask, None, none, Operand, Option, Outward, part, Place, range_with_len, refl, rules, Search, searched, Seek, SetMask, skip_of, skipped, skips, Some, Stage, stays, storage_of, Store, stored, straight_to, subst, suc, sym, taken, Track, track_of, true, under_way, with_taken, written, zero, ℕ, ◌++◌, ◌+◌, ◌<◌, ◌==◌, ◌∙◌, ◌∷◌, ◌≡◌, ◌≤◌, ◌⊎◌}
 use Rattle.std.specs.Option.{option_map}
 use Rattle.std.specs.Prelude.{drop, take}
 use Rattle.chan_walk.proofs.Machine.Yes.{fresh_out}
@@ -11,7 +11,11 @@ use Rattle.chan_walk.proofs.Machine.Events.{in_six}
 use Rattle.chan_walk.proofs.Machine.Quiet.{length-with_taken}
 use Rattle.chan_walk.proofs.Theory.Checks.{data_fits, passed}
 use Rattle.chan_walk.proofs.Theory.Follows.{by_command, by_data, by_skip, by_transfer, follows, FollowsBy}
-use Rattle.chan_walk.specs.Free.{CanSet, FetchesAhead, CarriesOutCcw, IsUnfinished, left_of, MachineIsFree, MayComeTo, MayMove, moved_into, SettingCanBe, StoredIsThere}
+use Rattle.ccw_core.specs.Ccw.{chains_command, chains_data, has_data_in, is_formed, is_invalid}
+use Rattle.ccw_core.specs.Storage.{is_aligned, is_inside}
+use Rattle.ckd_core.specs.Command.{is_seek, lookup, recalibrates, sets_mask, table}
+use Rattle.chan_walk.specs.ProgramCheck.{program_check_of}
+use Rattle.chan_walk.specs.Free.{CanSet, CarriesOutCcw, FetchesAhead, IsUnfinished, left_of, MachineIsFree, MayComeTo, MayMove, moved_into, one_seek, SeekIsFree, SettingCanBe, StoredIsThere}
 use Rattle.chan_walk.specs.Machine.{goes, home_goes, IsStored, mask_set, on_command, on_data, on_skip, Recalibration, Seeks, SetsMask}
 
 -- ---- the bytes
@@ -183,6 +187,23 @@ machine_is_free s y f p g is few bytes small may z arm h mask stage on =
         go : (b : Bool) → IsUnfinished (if b then Some [] else g)
         go true = omega arith
         go false = few
+
+-- ---- a seek that is carried out
+
+seek_is_carried_out : CarriesOutCcw one_seek (straight_to 0 Fresh)
+unfolding ccw program_check_of is_aligned is_inside is_transfer is_invalid is_formed has_count has_data_in table lookup
+seek_is_carried_out = record { unchecked = refl; no_transfer = refl; known = λ e. refl }
+
+pub seek_is_free : SeekIsFree
+unfolding ccw is_transfer chains_data chains_command table lookup is_seek recalibrates sets_mask
+seek_is_free = record {
+  carried = seek_is_carried_out;
+  unfinished = tt;
+  moves = (omega arith, λ e. cc);
+  arm = λ y. inr (inl ([], refl, refl, refl));
+  mask = λ f. inl refl;
+  goes_on = (refl, λ e. refl, λ e. refl, inl refl);
+}
 
 -- ---- what is stored
 
