@@ -20,7 +20,7 @@ OPERATORS = {
     f"{MATHLIB}/Logic.antt": "↔ ⊎ ≢",
     f"{MATHLIB}/Bool.antt": "&& ||",
     "core/specs/Bool.antt": "==",
-    f"{MATHLIB}/Nat.antt": "+ * < ≤ - %",
+    f"{MATHLIB}/Nat.antt": "+ * < ≤ - % / ^",
     f"{MATHLIB}/List/Defs.antt": "∷ ++",
 }
 DECLARES = {None: "infix", "left": "infixl", "right": "infixr"}

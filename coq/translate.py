@@ -3,6 +3,9 @@
 
     translate.py ROOT NAME.. > Defs.v      ROOT is a checkout, NAME a definition, as YesIsSafe
 
+A law may state more than the name of a definition: OneTextDecks is what the clause `decks` of the law
+`one_text` states, in src/laws.rt of its crate.
+
 What is translated is the closure: the names, and all that they rest on, down to the kit's library,
 which Prelude.v defines by hand. Whatever this script doesn't read it refuses, with file and line.
 How it reads is fixed by the kit: FIXITY is compared with the kit's sources by kit.py.
@@ -15,7 +18,8 @@ from pathlib import Path
 # operator -> (strength, side), as the kit declares them; → × λ and the binders are built in
 FIXITY = {'↔': (0, None), '⊎': (1, 'right'), '×': (2, 'right'), '≡': (4, None), '≢': (4, None), '||': (30, 'left'),
           '&&': (35, 'left'), '==': (40, None), '<': (50, None), '≤': (50, None), '+': (65, 'left'),
-          '-': (65, 'left'), '++': (65, 'left'), '∷': (67, 'right'), '*': (70, 'left'), '%': (70, 'left')}
+          '-': (65, 'left'), '++': (65, 'left'), '∷': (67, 'right'), '*': (70, 'left'), '%': (70, 'left'),
+          '/': (70, 'left'), '^': (75, 'right')}
 IF = 5
 # what the kit's library has, and what Prelude.v or Coq has in its place
 LIBRARY = {
@@ -26,8 +30,12 @@ LIBRARY = {
     'bit_and': 'Nat.land', 'slice_index': 'slice_index', 'range_with_len': 'range_with_len', 'codes': 'codes',
     'list_any': 'existsb', 'list_all': 'forallb', 'AllByRecursion': 'AllByRecursion', 'if◌then◌else◌': None,
     'IsStrictlyIncreasing': 'IsStrictlyIncreasing', 'All': 'All', 'AllWithin': 'AllWithin', 'HoldsAt': 'HoldsAt',
-    'IsSome': 'IsSome', 'drop': 'skipn', 'reverse': 'rev', **{f'◌{op}◌': None for op in FIXITY}}
-LIBRARY_MODULES = {'std.specs.Prelude', 'std.specs.List', 'std.specs.Option', 'std.specs.List.Sorted'}
+    'IsSome': 'IsSome', 'drop': 'skipn', 'reverse': 'rev', 'flat_map': 'flat_map',
+    'MatchBool': 'MatchBool', 'on': 'on', 'eq_of_both': 'eq_of_both', 'pointwise': 'pointwise',
+    'bytes_high_first': 'bytes_high_first', 'to_be_bytes': 'to_be_bytes', 'w32': 'w32',
+    'encode_upper': 'encode_upper', 'decimal': 'decimal', **{f'◌{op}◌': None for op in FIXITY}}
+LIBRARY_MODULES = {'std.specs.Prelude', 'std.specs.List', 'std.specs.Option', 'std.specs.List.Sorted', 'std.specs.Int',
+                   'std.specs.Fmt', 'std.specs.Ordering', 'std.specs.Cmp.Lexicographic', 'hex.specs.Hex'}
 CONSTRUCTORS = {'zero', 'suc', 'true', 'false', '[]', 'Some', 'None'}
 # words of Coq, names that are written below, and constructors, which a pattern would match. That no
 # constructor is missing here, Coq checks over the lines that `patterns` writes.
@@ -39,6 +47,7 @@ RESERVED = set('''
  ex_intro2 eq_refl inhabits exist exist2 existT existT2 Eq Lt Gt String EmptyString
  Ascii'''.split())
 COQ = {'<': ('<', 70), '≤': ('<=', 70), '≡': ('=', 70), '≢': ('≢', 70), '+': ('+', 50), '-': ('-', 50), '*': ('*', 40), '%': ('mod', 40),
+       '/': ('/', 40), '^': ('^', 30),
        '∷': ('::', 60), '++': ('++', 60), '==': ('=?', 70), '&&': ('&&', 40), '||': ('||', 50),
        '×': ('×', 80), '⊎': ('⊎', 85), '↔': ('↔', 95), '→': ('->', 99)}
 
@@ -49,9 +58,9 @@ class Refused(Exception):
 
 # ---- words
 # a text holds signs of ASCII: of others the kit counts characters, and Coq bytes
-WORD = re.compile(r'''(?P<space>[ \n]+)|(?P<comment>--[^\n]*)|(?P<string>"[ !#-[\]-~]*")
+WORD = re.compile(r'''(?P<space>[ \n]+)|(?P<comment>--[^\n]*)|(?P<string>"(?:[ !#-[\]-~]|\\n)*")
  |(?P<number>0x[0-9A-Fa-f]+|\d+)|(?P<name>[A-Za-z_][\w'-]*)
- |(?P<op>→|λ|≡|≢|∷|\+\+|\+|-|\*|%|<|≤|==|&&|\|\||×|⊎|↔)|(?P<sign>⊥|ℕ|\[\]|[.,(){}=:;])''',
+ |(?P<op>→|λ|≡|≢|∷|\+\+|\+|-|\*|%|/|\^|<|≤|==|&&|\|\||×|⊎|↔)|(?P<sign>⊥|ℕ|\[\]|[.,(){}=:;])''',
                   re.X | re.A)
 Token = namedtuple('Token', 'kind text at spaced')
 
@@ -209,7 +218,7 @@ class Reader:
         if kind == 'number':
             return ('number', int(text, 0))
         if kind == 'string':
-            return ('string', text[1:-1])
+            return ('string', text[1:-1].replace('\\n', '\n'))
         if text in ('let', 'elim', 'where', 'open', 'do', 'with'):
             self.fail(f'the word {text}')
         if text == 'record':
@@ -260,25 +269,62 @@ Item = namedtuple('Item', 'kind name text clauses where order')
 HEAD = re.compile(r"(abbrev pub|unfoldable pub|abbrev|unfoldable|pub record|pub data|pub) ([^\s:({]+)")
 
 
+# laws that are stated beside their names, in src/laws.rt, count as definitions of a file of this name
+LAWS = 'laws'
+LAW = re.compile(r"""(?P<use>ghost\ (?P<what>use\ [^;]*);\n)|(?P<blank>\n|//[^\n]*\n)
+ |fn\ (?P<law>\w+)\(\)\n(?P<clauses>(?:\ {4}ensures(?:\ \w+)?\ \{[^{}]*\}\n)+)\{\}\n""", re.X)
+# what a law states, unless it is a definition
+CLAUSE = re.compile(r'    ensures(?: (\w+))? \{ ([^{}]*[^{}\w][^{}]*) \}\n')
+
+
+def path_of(crate, name):
+    return f'crates/{crate}/src/laws.rt' if name == LAWS else f'crates/{crate}/specs/{name}.antt'
+
+
+def statement_name(law, clause):
+    """The name of what a law states, or a clause of it: OneTextDecks for the clause decks of one_text."""
+    return ''.join(word.capitalize() for word in f'{law}_{clause or ""}'.split('_'))
+
+
+def blocks_of(text, path):
+    """Each item of a file, and each clause: where it begins, and its lines."""
+    blocks = []
+    for number, line in enumerate(text.split('\n'), 1):
+        if not line.strip() or line.startswith('--'):
+            continue
+        if '\t' in line: raise Refused(f'{path}:{number}: a tab')
+        if line[0].isspace() or line[0] == '}':
+            if not blocks: raise Refused(f'{path}:{number}: an indented line first')
+            blocks[-1][1].append(line)
+        else:
+            blocks.append((f'{path}:{number}', [line]))
+    return blocks
+
+
+def blocks_of_laws(text, path):
+    """The laws of a file of the code as blocks of definitions."""
+    blocks, at = [], 0
+    while at < len(text):
+        where, m = f'{path}:{text[:at].count(chr(10)) + 1}', LAW.match(text, at)
+        if not m: raise Refused(f'{where}: no law: {text[at:at + 40]!r}')
+        if m['use']:
+            blocks.append((where, [m['what']]))
+        for clause, statement in CLAUSE.findall(m['clauses'] or ''):
+            name = statement_name(m['law'], clause)
+            blocks += [(where, [f'abbrev pub {name} : Type 0']), (where, [f'{name} = {statement}'])]
+        at = m.end()
+    return blocks
+
+
 class Source:
     """A file of definitions: its items, and where it takes each name from."""
 
     def __init__(self, root, crate, name, order):
         self.crate, self.name, self.items, self.uses, self.aliases = crate, name, {}, {}, {}
-        path = f'crates/{crate}/specs/{name}.antt'
+        path = path_of(crate, name)
         text = (Path(root) / path).read_text()
-        blocks = []
-        for number, line in enumerate(text.split('\n'), 1):
-            if not line.strip() or line.startswith('--'):
-                continue
-            if '\t' in line: raise Refused(f'{path}:{number}: a tab')
-            if line[0].isspace() or line[0] == '}':
-                if not blocks: raise Refused(f'{path}:{number}: an indented line first')
-                blocks[-1][1].append(line)
-            else:
-                blocks.append((f'{path}:{number}', [line]))
         last = None
-        for where, lines in blocks:
+        for where, lines in (blocks_of_laws if name == LAWS else blocks_of)(text, path):
             text = '\n'.join(lines)
             if lines[0].startswith(('use ', 'pub use ')):
                 self.use(text, where)
@@ -402,6 +448,8 @@ class Code:
             return ('name', 'ℕ')
         if rust == 'bool':
             return ('name', 'Bool')
+        if rust == 'str':
+            return ('app', ('name', 'List'), ('name', 'ℕ'))
         if m := re.fullmatch(r"&'\w+ (.*)", rust):
             return ('ref', self.type_of(m[1], here))
         # the length of an array is dropped, as invariants are
@@ -425,9 +473,10 @@ class World:
         self.order = [entry.split()[0] for entry in order]
         for a, crate in enumerate(self.order):
             index = Path(root) / f'crates/{crate}/specs/Lib.antt'
-            if index.is_file():
-                for b, name in enumerate(re.findall(r'^pub mod (\w+)', index.read_text(), re.M)):
-                    self.sources[crate, name] = (a, b)
+            names = re.findall(r'^pub mod (\w+)', index.read_text(), re.M) if index.is_file() else []
+            names += [LAWS] if (Path(root) / path_of(crate, LAWS)).is_file() else []
+            for b, name in enumerate(names):
+                self.sources[crate, name] = (a, b)
         self.read = {}
 
     def source(self, crate, name):
@@ -438,9 +487,16 @@ class World:
 
     def named(self, name):
         """The definition of this name, in whichever file it is."""
-        found = [(c, f) for c, f in self.sources if re.search(rf"^(?:abbrev|unfoldable|pub)[\w ]* {re.escape(name)}\b", (Path(self.root) / f'crates/{c}/specs/{f}.antt').read_text(), re.M)]
+        found = [file for file in self.sources if self.defines(*file, name)]
         if len(found) != 1: raise Refused(f'{name} is defined in {found}')
         return ('spec', *found[0], name)
+
+    def defines(self, crate, file, name):
+        text = (Path(self.root) / path_of(crate, file)).read_text()
+        if file == LAWS:
+            laws = [(m['law'], m['clauses']) for m in LAW.finditer(text) if m['law']]
+            return name in [statement_name(law, clause) for law, clauses in laws for clause, _ in CLAUSE.findall(clauses)]
+        return re.search(rf"^(?:abbrev|unfoldable|pub)[\w ]* {re.escape(name)}\b", text, re.M)
 
     def resolve(self, source, name, where):
         """What a free name of a file means: ('spec', crate, file, name) ('constructor', ..) ('code', crate, type)
@@ -580,8 +636,9 @@ class Translation:
     def __init__(self, root, names):
         self.world = World(root)
         self.read, self.keys, self.in_patterns = {}, [], set()
-        for name in names:
-            self.visit(self.world.named(name))
+        self.asked = [self.world.named(name) for name in names]
+        for key in self.asked:
+            self.visit(key)
         self.name_all()
 
     # the closure
@@ -730,7 +787,7 @@ class Translation:
             else:
                 rows.append((key, key[3], f'{key[2]}_{key[3]}'))
                 if isinstance(it, Data):
-                    rows += [(('constructor', *key[1:], c), c, None) for c, _ in it.constructors]
+                    rows += [(('constructor', *key[1:], c), c, f'{key[3]}_{c}') for c, _ in it.constructors]
         taken = {v for v in LIBRARY.values() if v} | RESERVED | {'unit', 'Empty', 'prod', 'sum', 'sigT'}
         plain = {}
         for key, name, longer in rows:
@@ -738,6 +795,9 @@ class Translation:
         self.names = {}
         for name, some in plain.items():
             keep = [k for k, longer in some if longer is None] or ([some[0][0]] if len(some) == 1 and name not in taken else [])
+            # a name that is asked for stays plain, and otherwise the first of several constructors has it
+            keep = keep or [k for k, _ in some if k in self.asked and name not in taken]
+            keep = keep or [k for k, _ in some if k[0] == 'constructor'][:1]
             # of variants in two crates that of the lower crate keeps the plain name
             if not keep and name not in taken and all(k[0] == 'variant' for k, _ in some):
                 ranks = sorted((self.world.order.index(k[1]), k) for k, _ in some)
@@ -952,8 +1012,10 @@ class Translation:
                 # Coq has these at the levels of * and +
                 left = own if e[2][0] == 'op' and e[2][1] == op else 10
                 right = 10
-            if op in ('*', '%'):
+            if op in ('*', '%', '/'):
                 left = own if e[2][0] == 'op' and e[2][1] == op == '*' else 10
+            if op == '^':
+                left = right = 10
             if op == '→':
                 right = 200
             return wrap(f'{self.show(e[2], scope, left)} {sign} {self.show(e[3], scope, right)}', own if op != '→' else 99)
@@ -1165,7 +1227,7 @@ class Translation:
     def text(self):
         out, last = [], None
         for key in self.keys:
-            where = f'{key[1]}, of the code' if key[0] == 'code' else f'{key[1]}/specs/{key[2]}.antt'
+            where = f'{key[1]}, of the code' if key[0] == 'code' else path_of(*key[1:3]).removeprefix('crates/')
             if where != last:
                 out.append(f'\n(* ---- {where} *)\n')
                 last = where

@@ -39,7 +39,7 @@ sys.path.insert(0, str(HERE))
 
 from kit import DECLARES, LAWS as OF_KIT_V, OPERATORS, QUOTED  # noqa: E402
 from kit import TEXTS as OF_THE_KIT, differences_to  # noqa: E402
-from translate import FIXITY, Translation  # noqa: E402
+from translate import FIXITY, Translation, statement_name  # noqa: E402
 
 TOOLS = ["coqc", "coq_makefile", "ocamlopt", "make"]
 CONTRACT = HERE / "Contract.v"
@@ -58,7 +58,7 @@ OF_CONTRACT = {
 }
 
 # the files of laws, and how many reasons a no can have
-LAWS = ["chan_walk/src/laws.rt", "chan_needs/src/laws.rt"]
+LAWS = ["chan_walk/src/laws.rt", "chan_needs/src/laws.rt", "chan_deck/src/laws.rt"]
 REASONS = 16
 
 # KiB of memory that are too few for a deck with 16 MiB of storage
@@ -89,6 +89,24 @@ OTHER_PRELUDES = [
     ("forall k d, k < List", "forall k d, k <= List"),
     ("low <= k -> k < high -> P (nth k xs d).", "low < k -> k < high -> P (nth k xs d)."),
     (":= forall d, P (nth k xs d).", ":= forall d, P (nth 0 xs d)."),
+    ("if b then P else Q.", "if b then Q else P."),
+    ("R (f x) (f y).", "R (f y) (f x)."),
+    (":= E x y && F x y.", ":= E x y || F x y."),
+    ("| [], [] => true", "| [], _ => true"),
+    ("=> E x y && pointwise", "=> E x y || pointwise"),
+    ("w32 => 32", "w32 => 16"),
+    ("bits w / 8.", "bits w / 4."),
+    ("match i with 0 => n mod 256", "match i with 0 => n mod 255"),
+    ("(n / 256 ^ S i) mod 256", "(n / 256 ^ i) mod 256"),
+    ("byte_at k n :: bytes_high_first k n", "byte_at (S k) n :: bytes_high_first k n"),
+    ("bytes_high_first (byte_len w) n.", "bytes_high_first (bits w) n."),
+    ("slice_index t (b / 16) :: ", ""),
+    ('codes "0123456789ABCDEF".', 'codes "0123456789abcdef".'),
+    ("encode_with upper_digits bytes.", "encode_with [] bytes."),
+    ("then 48 + d else if", "then 49 + d else if"),
+    ("if n / base =? 0 then", "if n mod base =? 0 then"),
+    ("digits_onto 64 base upper n [].", "digits_onto 63 base upper n []."),
+    ("digits 10 false n.", "digits 16 false n."),
 ]
 
 # in place of coq_makefile and coqc: one makes nothing, one fails over a file
@@ -112,6 +130,15 @@ def names_of_laws():
     return text_of(HERE / "LAWS").split()
 
 
+def laws_of(text):
+    """Each law of a file, and the names of what it states, as the translator calls these."""
+    found = {}
+    for law, clauses in re.findall(r"(?ms)^(?:pub\(crate\) )?fn (\w+)\(\)\n(.*?)^\{\}$", text):
+        stated = re.findall(r"(?s)ensures (?:(\w+) )?\{ (.*?) \}", clauses)
+        found[law] = [it if it.isalnum() else statement_name(law, name) for name, it in stated]
+    return found
+
+
 def check_laws(checks, said):
     """Each law is stated in Laws.v, and what it assumes is nothing."""
     text = text_of(HERE / "Laws.v")
@@ -121,8 +148,8 @@ def check_laws(checks, said):
         checks.expect(f"what is printed beside {name}", name, asked)
     proved = [law for name, law, asked in stated if law and name == asked]
     for file in LAWS:
-        for law in re.findall(r"ensures \{ (\w+) \}", text_of(CRATES / file)):
-            checks.expect_that(f"{law} is proved in Coq", law in proved, proved)
+        for law, clauses in laws_of(text_of(CRATES / file)).items():
+            checks.expect_that(f"{law} is proved in Coq", clauses and {*clauses} <= {*proved}, proved)
     checks.expect_that("laws that are translated", {*proved} <= {*names_of_laws()}, proved)
     closed = said.count("Closed under the global context")
     checks.expect("statements without an axiom", len(stated), closed)
@@ -146,7 +173,11 @@ def check_marks(checks):
     """MACHINE marks by *once* exactly the laws that Laws.v doesn't have."""
     page = text_of(ROOT / "docs/MACHINE.md").partition("## The laws\n")[2].partition("\n## ")[0]
     rows = re.findall(r"(?m)^\| (`[^|]*) \|", page)
-    proved = {*re.findall(r"Check \((\w+) :", text_of(HERE / "Laws.v"))}
+    checked = dict(re.findall(r"Check \((\w+) : (\w+)\)", text_of(HERE / "Laws.v")))
+    proved, stated = {*checked}, {*checked.values()}
+    for path in CRATES.glob("*/src/laws.rt"):
+        laws = laws_of(text_of(path)).items()
+        proved |= {law for law, clauses in laws if clauses and {*clauses} <= stated}
     for row in rows:
         laws = [law for law in re.findall(r"`(\w+)`", row) if "/" not in law]
         for law in laws:

@@ -14,7 +14,7 @@ sys.path.insert(0, str(ROOT / "coq"))
 from translate import Refused, Translation  # noqa: E402
 
 LIBRARY = """use Rattle.std.specs.Prelude.{◌≡◌, List, [], ◌∷◌, ℕ, zero, suc, Bool, true, false}
-use Rattle.std.specs.Prelude.{Option, None, Some, length, ◌+◌, ◌*◌, ◌-◌, ◌%◌, ◌&&◌, ◌||◌, ◌++◌, map}
+use Rattle.std.specs.Prelude.{Option, None, Some, length, ◌+◌, ◌*◌, ◌-◌, ◌%◌, ◌/◌, ◌^◌, ◌&&◌, ◌||◌, ◌++◌, map}
 use Rattle.std.specs.Prelude.{if◌then◌else◌, nat_lt, codes, ◌==◌, ◌≢◌, ◌<◌, ◌≤◌, ◌⊎◌, ◌↔◌}
 """
 FORMS = """
@@ -91,6 +91,8 @@ OPERATORS = {
     "-": ("ℕ", "ℕ", "ℕ", "Nat.sub ({}) ({})"),
     "*": ("ℕ", "ℕ", "ℕ", "Nat.mul ({}) ({})"),
     "%": ("ℕ", "ℕ", "ℕ", "Nat.modulo ({}) ({})"),
+    "/": ("ℕ", "ℕ", "ℕ", "Nat.div ({}) ({})"),
+    "^": ("ℕ", "ℕ", "ℕ", "Nat.pow ({}) ({})"),
     "==": ("ℕ", "ℕ", "Bool", "Nat.eqb ({}) ({})"),
     "&&": ("Bool", "Bool", "Bool", "andb ({}) ({})"),
     "||": ("Bool", "Bool", "Bool", "orb ({}) ({})"),

@@ -11,7 +11,7 @@ from functools import cache
 
 from building import ROOT
 from coq_text import Inductive, Record, Unread
-from translate import Source
+from translate import Source, path_of
 
 # what the kit's library calls what Coq or Prelude.v calls otherwise, and what both call the same
 LIBRARY = {
@@ -21,13 +21,15 @@ LIBRARY = {
     **{"existsb": "list_any", "forallb": "list_all", "option": "Option"},
 }
 SAME = """true false [] map length Some None option_map option_or is_some is_none slice_index tt
- range_with_len codes AllByRecursion IsStrictlyIncreasing All AllWithin HoldsAt IsSome""".split()
+ range_with_len codes AllByRecursion IsStrictlyIncreasing All AllWithin HoldsAt IsSome
+ flat_map MatchBool on eq_of_both pointwise bytes_high_first to_be_bytes w32
+ encode_upper decimal""".split()
 LIBRARY |= {name: name for name in SAME}
 # constructors of Coq with a name that a definition's variable could have, beside those above
 OF_COQ = {"O", "I", "inl", "inr", "pair", "nil", "cons", "left", "right", "existT", "String"}
 
 DECLARED = r"(\w+)\.specs\.declared\.(\w+)"
-USE = re.compile(r"(?m)^use Rattle\.([\w.]+)\.\{([^{}]*)\}")
+USE = re.compile(r"(?m)^(?:ghost )?use Rattle\.([\w.]+)\.\{([^{}]*)\}")
 ALIAS = re.compile(r"(?m)^use Rattle\.([\w.]+)\.TheVariants as (\w+)")
 
 
@@ -39,8 +41,7 @@ class File:
     """A file of definitions: its items by the translator, and what its other names mean."""
 
     def __init__(self, files, crate, name):
-        path = files.root / f"crates/{crate}/specs/{name}.antt"
-        text = path.read_text()
+        text = (files.root / path_of(crate, name)).read_text()
         self.files, self.crate, self.name = files, crate, name
         self.source = Source(files.root, crate, name, (0,))
         self.taken = {}
@@ -69,7 +70,7 @@ class File:
         path = self.taken.get(name)
         if path is None:
             return self.own(name) or (("library", name) if name in ("Unit", "⊥", "tt") else None)
-        if path.startswith("std.specs."):
+        if path.startswith("std.specs.") or path == "hex.specs.Hex":
             return ("number", 0) if name == "zero" else ("library", name)
         if found := re.fullmatch(rf"{DECLARED}\.TheConstants", path):
             return ("number", self.files.constant(*found.groups(), name))
@@ -119,10 +120,11 @@ class Names:
 
     def go_to(self, heading):
         """Goes to the file or the types that a heading names."""
-        found = re.fullmatch(r"\(\* ---- (\w+)(?:/specs/(\w+)\.antt|, of the code) \*\)", heading)
+        path = r"/specs/(\w+)\.antt|/src/(laws)\.rt|, of the code"
+        found = re.fullmatch(rf"\(\* ---- (\w+)(?:{path}) \*\)", heading)
         if found:
-            self.crate = found[1]
-            self.file = self.files.file(found[1], found[2]) if found[2] else None
+            self.crate, file = found[1], found[2] or found[3]
+            self.file = self.files.file(self.crate, file) if file else None
 
     def add(self, name, meaning):
         if name in self.means or name in OF_COQ:
@@ -158,5 +160,6 @@ class Names:
         """What a constructor means: its name may begin with that of its type."""
         if not is_data:
             return ("variant", *meaning[1:], name.removeprefix(f"{meaning[2]}_"))
-        [found] = [it for it in self.file.constructors() if in_coq(it) == name]
+        own = [it for it, data in self.file.constructors().items() if data == meaning[3]]
+        [found] = [it for it in own if name in (in_coq(it), f"{meaning[3]}_{in_coq(it)}")]
         return ("constructor", *meaning[1:3], found)

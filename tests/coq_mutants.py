@@ -1,13 +1,14 @@
 """Wrong definitions: Coq refuses each, and over eleven of them a law is proved to be false.
 
 A mutant is an edit of a definition that is translated: one of MUTANTS here, or one of must-fail/ in
-chan_walk and chan_needs, without its edits of code and proofs. Each is translated anew, and the
-proofs are checked over it. A refusal may come from the text of a proof alone. So coq_refuted.v has
-for some a job, its yes by the verifier, and a run that breaks the promise of the yes. SHARED
-changes what verdict and machine share, as docs/MACHINE.md lists it: there every proof must hold.
+chan_walk, chan_needs and chan_deck, without its edits of code and proofs. Each is translated anew,
+and the proofs are checked over it. A refusal may come from the text of a proof alone. So
+coq_refuted.v has for some a job, its yes by the verifier, and a run that breaks the promise of the
+yes. SHARED changes what verdict and machine share, as docs/MACHINE.md lists it: there every proof
+must hold.
 
-Ten refusals are tried, and with COQ_MUTANTS=all every one. Without Coq the test is left out, by its
-name.
+Eleven refusals are tried, and with COQ_MUTANTS=all every one. Without Coq the test is left out, by
+its name.
 
     tests/coq_mutants.py [NAME..]    names the lemma that fails over each mutant, or over these
 """
@@ -28,7 +29,7 @@ from mutants import paths_of, read_mutant  # noqa: E402
 from running import run, text_of  # noqa: E402
 
 AT_ONCE = 2
-CRATES_OF_LAWS = ("chan_walk", "chan_needs")
+CRATES_OF_LAWS = ("chan_walk", "chan_needs", "chan_deck")
 REFUTED = ROOT / "tests/coq_refuted.v"
 # which of MUTANTS and of must-fail/ are tried unless all are
 USUAL = [
@@ -42,6 +43,7 @@ USUAL = [
     "law-refuses-no-fetch-ahead",
     "law-refuses-forgetting-in-flight",
     "law-refuses-needs-of-skipping-reads",
+    "law-refuses-an-open-line-after-the-end",
 ]
 # file, old text, new text
 CCW = "ccw_core/specs/Ccw.antt"

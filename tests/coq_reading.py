@@ -24,6 +24,8 @@ READ = {
     "a ++ b ∷ c": "(a ++ (b ∷ c))",
     "a - b + c": "((a - b) + c)",
     "a + b * c % d": "(a + ((b * c) % d))",
+    "a * b / c % d": "(((a * b) / c) % d)",
+    "a * b ^ c ^ d": "(a * (b ^ (c ^ d)))",
     "a && b || c && d": "((a && b) || (c && d))",
     "a == b && c == d": "((a == b) && (c == d))",
     "a + 1 == b": "((a + 1) == b)",
@@ -53,9 +55,10 @@ REFUSED = [
     "elim x [ ]",
     "a ∧ b",
     "record { a = record { b = c } . }",
-    "a / b",
-    "a ^ b",
+    "a /b",
+    "a ^b",
     'codes "é"',
+    r'codes "\t"',
     "é",
     "aé",
     "f 007",
@@ -172,6 +175,29 @@ def lost(source, text):
     pairs = [*zip_longest(file, back)]
     at = next((n for n, (one, other) in enumerate(pairs) if one != other), None)
     return None if at is None else pairs[at : at + 6]
+
+
+def lost_laws(source, text):
+    """The words of a file of laws that its statements don't have, or None.
+
+    A law states definitions, or each of its clauses a statement, which has its name and that of
+    the law as its own, such as OneTextDecks.
+    """
+    rest = re.sub(r"(?m)//.*$|^ghost use [^;]*;$", "", text)
+    stated = []
+    for law, clauses in re.findall(r"(?ms)^fn (\w+)\(\)\n(.*?)^\{\}$", rest):
+        rest = rest.replace(f"fn {law}()\n{clauses}{{}}", "", 1)
+        for clause, statement in re.findall(r"(?s)ensures (?:(\w+) )?\{(.*?)\}", clauses):
+            name = "".join(word.capitalize() for word in f"{law}_{clause}".split("_"))
+            if not re.fullmatch(r"\w+", statement.strip()):
+                stated.append(["abbrev", "pub", name, ":", "Type", "0", name, "=", *statement.split()])
+            clauses = re.sub(r"(?s)ensures (?:(\w+) )?\{(.*?)\}", "", clauses, count=1)
+        rest += clauses
+    split = [
+        f"{item.kind} {item.name}{item.text} {' '.join(it for it, _ in item.clauses)}".split()
+        for item in source.items.values()
+    ]
+    return None if split == stated and not rest.strip() else (split, stated, rest)
 
 
 def wrong_readings():

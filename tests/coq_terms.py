@@ -287,7 +287,8 @@ class Clauses(Comparison):
         for (name, kind), (written, params, written_kind) in zip(
             read.constructors, item.constructors
         ):
-            self.want(name.replace("-", "_") == written and not params, name, written)
+            plain = name.replace("-", "_")
+            self.want(written in (plain, f"{item.name}_{plain}") and not params, name, written)
             self.same(kind, written_kind, bound)
 
 

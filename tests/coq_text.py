@@ -13,7 +13,8 @@ from typing import NamedTuple
 
 # sign -> (level, side): a lower level binds tighter
 LEVELS = {
-    **dict.fromkeys(["*", "&&"], (40, "left")),
+    "^": (30, "right"),
+    **dict.fromkeys(["*", "/", "&&"], (40, "left")),
     "mod": (40, None),
     **dict.fromkeys(["+", "-", "||"], (50, "left")),
     **dict.fromkeys(["::", "++"], (60, "right")),
@@ -29,7 +30,7 @@ LOOSEST = 200
 WORD = re.compile(
     r"""(?P<space>\s+)|(?P<heading>\(\*.*?\*\))|(?P<string>"[^"]*"%string)|(?P<number>\d+)
  |(?P<name>[A-Za-z_][\w']*(?:\.[A-Za-z_][\w']*)*)
- |(?P<sign>->|=>|:=|<=\?|<\?|=\?|<=|::|\+\+|&&|\|\||\[\]|[×⊎↔≢+*<=(){}\[\],:;.|&-])""",
+ |(?P<sign>->|=>|:=|<=\?|<\?|=\?|<=|::|\+\+|&&|\|\||\[\]|[×⊎↔≢+*/^<=(){}\[\],:;.|&-])""",
     re.X | re.S | re.A,
 )
 OPENS = {"fun", "forall", "if"}

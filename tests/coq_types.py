@@ -73,6 +73,8 @@ class Types:
         rust = re.sub(r"^&(?:'\w+ )?", "", rust.strip())
         if rust in NUMBERS or rust == "bool":
             return written == ("name", "bool" if rust == "bool" else "nat")
+        if rust == "str":
+            return written == ("app", ("name", "list"), ("name", "nat"))
         list_of = re.fullmatch(r"\[(.*?)(?:; \d+)?\]", rust)
         for form, found in (("list", list_of), ("option", re.fullmatch(r"Option<(.*)>", rust))):
             if found:

@@ -19,7 +19,7 @@ from pathlib import Path
 import coq_forms
 from building import ROOT
 from coq_meanings import Files, Names
-from coq_reading import lost
+from coq_reading import lost, lost_laws
 from coq_terms import Clauses, Differs
 from coq_text import Definition, Inductive, Items, Record, Unread
 from coq_types import Types
@@ -53,11 +53,17 @@ ALTERED = [
     ("lies_in", "(Area_start x <=? b) && (b <? ", "Area_start x <=? (b && b <? "),
     ("IsSameIn", "P b -> byte t b = byte s b", "(P b -> byte t b) = byte s b"),
     ("IsRunAmong", "(Steps m n ⊎ Waits m n × ", "((Steps m n ⊎ Waits m n) × "),
+    ("cylinder_digits", "(n / 10) mod 10", "n / (10 mod 10)"),
+    ("cylinder_digits", "48 + n / 100", "(48 + n) / 100"),
     # numbers and texts
     ("chains_data", "128", "64"),
     ("heads_of", "D2314 => 20", "D2314 => 19"),
     ("IsExtent", "snd e <= 202", "snd e <= 203"),
     ("control_commands", '"seek"', '"sense"'),
+    ("cylinder_digits", "n / 100", "n / 10"),
+    ("cylinder_digits", "n / 100", "n * 100"),
+    ("HasForm", "2 ^ 28", "2 * 28"),
+    ("HasForm", "2 ^ 28", "28 ^ 2"),
     # parts that are left out, or stand elsewhere
     ("is_allowed", "has_no_bin x && ", ""),
     ("IsLeastOf", "P n × ", ""),
@@ -88,6 +94,11 @@ ALTERED = [
     ("AreFlightsWell", "forall (i : nat) (f : Flight)", "forall {i : nat} (f : Flight)"),
     ("IsSupervised", " as tail1)) => IsSupervised tail1", " as tail1)) => IsSupervised before"),
     ("HasChanged", "| (Changed b) =>", "| (Cylinder b) =>"),
+    ("may_stand", "| (Some (storage n)), Item_end", "| (Some (storage n)), (start n)"),
+    ("AppliesBehindEnd", "FoundLine_part (b :: rest)", "FoundLine_part rest"),
+    ("text", "flat_map", "map"),
+    ("same_versions", "on version_number", "on limit_of"),
+    ("OneTextTexts", "Spells u d -> t = u", "Spells u d -> u = t"),
 ]
 # parts of what is written for coq_forms, and what Coq would take for something else
 CAUGHT = [
@@ -221,7 +232,8 @@ def check(checks, _built):
     checks.expect("laws that aren't written", set(), {*names} - found)
     for crate, file in sorted({it[1:3] for it in whole.found if it[0] == "definition"}):
         source = whole.names.files.file(crate, file).source
-        path = ROOT / f"crates/{crate}/specs/{file}.antt"
-        checks.expect(f"words of {crate}/{file} that are lost", None, lost(source, text_of(path)))
+        find = lost_laws if file == translate.LAWS else lost
+        found = find(source, text_of(ROOT / translate.path_of(crate, file)))
+        checks.expect(f"words of {crate}/{file} that are lost", None, found)
     check_altered(checks, text, ALTERED, ROOT)
     check_forms(checks)
