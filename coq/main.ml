@@ -1,73 +1,71 @@
-(* chanv-coq verify FILE..: the verdict on each deck, by the verifier that is proved in Coq. *)
+(* chanv-coq verify FILE..: reads each file, and prints what the proved function of Output.v answers. *)
 open Verifier
 
 let usage = "usage: chanv-coq verify FILE..\n       chanv-coq --version\n"
 let about = "chanv-coq " ^ Version.text ^ "\n\
-  The verifier is proved in Coq. Not proved are the reader of decks (deck.ml), this program\n\
-  (main.ml), Coq's extraction to OCaml, and OCaml's compiler and library.\n"
+  The answer to each text is proved in Coq. Not proved are this program (main.ml), which reads files\n\
+  and prints answers, Coq's extraction to OCaml, and OCaml's compiler and library.\n"
 
-(* the name of a reason is its word: ChangesCcw is changes-ccw *)
-let word_of = function
-  | Misaligned -> "misaligned"
-  | OutsideStorage -> "outside-storage"
-  | TransferNotAllowed -> "transfer-not-allowed"
-  | InvalidCode -> "invalid-code"
-  | BadFormat -> "bad-format"
-  | ZeroCount -> "zero-count"
-  | DataOutside -> "data-outside"
-  | NotInTable -> "not-in-table"
-  | Inhibited -> "inhibited"
-  | StoreNotLent -> "store-not-lent"
-  | FetchNotLent -> "fetch-not-lent"
-  | ShortSeek -> "short-seek"
-  | SeekOutside -> "seek-outside"
-  | ChangesCcw -> "changes-ccw"
-  | ChangesArgument -> "changes-argument"
-  | WeakensMask -> "weakens-mask"
+let bytes_of text = List.init (String.length text) (fun at -> Char.code text.[at])
 
-(* All of a file, or its first bytes if it is longer than a deck may be. *)
-let text_of file =
-  let channel = open_in_bin file in
-  Fun.protect ~finally:(fun () -> close_in_noerr channel) (fun () ->
-    let text = Buffer.create 65_536 in
-    let chunk = Bytes.create 65_536 in
-    let rec go () =
-      let n = input channel chunk 0 (Bytes.length chunk) in
-      Buffer.add_subbytes text chunk 0 n;
-      if n > 0 && Buffer.length text <= Deck.longest then go () in
-    go ();
-    Buffer.contents text)
+let print channel bytes =
+  let text = Buffer.create 256 in
+  List.iter (fun b -> Buffer.add_char text (Char.chr b)) bytes;
+  Buffer.output_buffer channel text;
+  flush channel
 
-(* The line of a verdict, or else the line in its place, and the status. *)
-let judge text =
-  if String.length text > Deck.longest then Error "deck too long", 2
-  else
-    match Deck.read text with
-    | exception Deck.Refused (line, cause) -> Error (Printf.sprintf "deck line %d: %s" line cause), 2
-    | deck -> (match fast_verify (Deck.memory_of deck) (Deck.job_of deck) with
-      | Inl Yes -> Ok "yes", 0
-      | Inl (No (a, r)) -> Ok (Printf.sprintf "no %06X %s" a (word_of r)), 1
-      | Inr _ -> Error "too many places", 2)
+(* All that is left, or its first bytes if it is longer than a deck may be. *)
+let text_of channel =
+  let expected = try in_channel_length channel with Sys_error _ -> 0 in
+  let text = Buffer.create (max 65_536 (min expected (most_text + 1))) in
+  let chunk = Bytes.create 65_536 in
+  let rec go () =
+    let n = input channel chunk 0 (Bytes.length chunk) in
+    Buffer.add_subbytes text chunk 0 n;
+    if n > 0 && Buffer.length text <= most_text then go () in
+  go ();
+  Buffer.contents text
 
-let answer file =
-  match judge (text_of file) with
-  | exception Sys_error _ -> Error "cannot read", 3
-  | exception (Out_of_memory | Stack_overflow) -> Error "out of memory", 3
-  | it -> it
+(* Takes memory for what is made of a text, and leaves it to the heap. In the midst of a collection OCaml
+   can't report that there is no more, so it is asked for before. *)
+let reserve length =
+  ignore (Sys.opaque_identity (Bytes.create (33_554_432 + (4 * length))));
+  Gc.set { (Gc.get ()) with Gc.max_overhead = 1_000_000 };
+  Gc.full_major ()
+
+let answer_to name channel =
+  let text = text_of channel in
+  reserve (String.length text);
+  answer name (fun at -> Char.code text.[at]) (String.length text)
+
+let answer_of_file file =
+  let name = bytes_of file in
+  match open_in_bin file with
+  | exception Sys_error _ -> report name (Failed CannotOpen)
+  | channel ->
+    Fun.protect ~finally:(fun () -> close_in_noerr channel) (fun () ->
+      match answer_to name channel with
+      | exception Sys_error _ -> report name (Failed ReadFailed)
+      | exception (Out_of_memory | Stack_overflow) -> report name (Failed OutOfMemory)
+      | it -> it)
 
 (* the greatest status of all *)
 let verify files =
   let each status file =
-    let said, own = answer file in
-    (match said with
-    | Ok verdict -> Printf.printf "%s: %s\n%!" file verdict
-    | Error why -> Printf.eprintf "chanv-coq: %s: %s\n%!" file why);
-    max status own in
+    let it = answer_of_file file in
+    print stdout it.written;
+    print stderr it.reported;
+    max status it.exit_status in
   List.fold_left each 0 files
+
+(* The line of a failed write names no file. *)
+let write_failed () =
+  let it = report [] (Failed WriteFailed) in
+  (try print stderr it.reported with Sys_error _ -> ());
+  it.exit_status
 
 let () =
   match List.tl (Array.to_list Sys.argv) with
   | [ "--version" ] -> print_string about
-  | "verify" :: (_ :: _ as files) ->
-    exit (try verify files with Sys_error _ -> prerr_string "chanv-coq: write failed\n"; 3)
+  | "verify" :: (_ :: _ as files) -> exit (try verify files with Sys_error _ -> write_failed ())
   | _ -> prerr_string usage; exit 4

@@ -112,7 +112,7 @@ def applied(e):
 WRITERS = {
     "name": lambda e: e[1] + (" {0}" if e[1] == "Unit" else ""),
     "number": lambda e: str(e[1]),
-    "string": lambda e: f'"{e[1]}"',
+    "string": lambda e: '"' + e[1].replace("\n", r"\n") + '"',
     "type": lambda e: "Type 0",
     "app": applied,
     "op": lambda e: f"({of(e[2])} {e[1]} {of(e[3])})",

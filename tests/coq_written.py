@@ -99,6 +99,9 @@ ALTERED = [
     ("text", "flat_map", "map"),
     ("same_versions", "on version_number", "on limit_of"),
     ("OneTextTexts", "Spells u d -> t = u", "Spells u d -> u = t"),
+    ("texts_of_failure", '"too many places\n"', '"too many places"'),
+    ("line_over", '"deck line "', '"deck "'),
+    ("status_of", "| Denied => 1", "| Denied => 0"),
 ]
 # parts of what is written for coq_forms, and what Coq would take for something else
 CAUGHT = [
