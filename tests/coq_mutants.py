@@ -49,6 +49,7 @@ USUAL = [
 CCW = "ccw_core/specs/Ccw.antt"
 MACHINE, FAULT = "chan_walk/specs/Machine.antt", "chan_walk/specs/Fault.antt"
 VERDICT, MASK = "chan_walk/specs/Verdict.antt", "ckd_core/specs/Mask.antt"
+REFUSED = "chan_deck/specs/Refused.antt"
 MUTANTS = {
     "stores-change-others": (
         MACHINE,
@@ -101,6 +102,16 @@ MUTANTS = {
         VERDICT,
         "IsVerdict j Yes = (p : Place) (r : Reason) → IsReachable j p → Offends j p r → ⊥",
         "IsVerdict j Yes = Unit {0}",
+    ),
+    "put-may-repeat": (
+        REFUSED,
+        "is_above (Some (put b w)) a = nat_lt b a",
+        "is_above (Some (put b w)) a = nat_le b a",
+    ),
+    "end-without-storage": (
+        REFUSED,
+        "may_stand second (Some (storage n)) end = true",
+        "may_stand second (Some (extent a b)) end = true",
     ),
     "no-without-offence": (VERDICT, "    IsOffence j a r × ((p : Place)", "    ((p : Place)"),
 }
