@@ -1,16 +1,16 @@
 """The laws and a verifier in Coq: all is proved, nothing is lost in translation, verdicts agree.
 
-`make coq` proves every law of chan_walk, chan_needs and chan_deck with no axiom. The translator takes exactly
-the definitions that closure.py counts, prints each back as its file has it, reads operators as the
-kit does, and refuses what it doesn't know, with file and line. Kit.v proves the laws of the kit's
-library of what Coq has in its place: each line that it quotes has a goal, over another Prelude.v a
-goal fails, and the comparison with the kit finds each difference of a made-up kit and of a copy. An
-error of a proof is an error of `make coq`. The contract that the verifier keeps there is that of
-`verify`, clause by clause. The program that is proved there says the same as chanv over all example
-decks, random jobs, large decks, refused decks, by line and cause, and damaged decks; it reports
-refused memory and a failed write; and what stands in OCaml for functions of Coq gives what these
-give. Forms that Coq could read otherwise than the kit mean the same there. Without Coq the test is
-left out, by its name.
+`make coq` proves every law of chan_walk, chan_needs and chan_deck with no axiom. The translator
+takes exactly the definitions that closure.py counts, prints each back as its file has it, reads
+operators as the kit does, and refuses what it doesn't know, with file and line. Kit.v proves the
+laws of the kit's library of what Coq has in its place: each line that it quotes has a goal, over
+another Prelude.v a goal fails, and the comparison with the kit finds each difference of a made-up
+kit and of a copy. An error of a proof is an error of `make coq`. The contract that the verifier
+keeps there is that of `verify`, clause by clause. The program that is proved there says the same as
+chanv over all example decks, random jobs, large decks, refused decks, by line and cause, and
+damaged decks; it reports refused memory and a failed write; and what stands in OCaml for functions
+of Coq gives what these give. Forms that Coq could read otherwise than the kit mean the same there.
+Without Coq the test is left out, by its name.
 """
 
 import os

@@ -125,6 +125,7 @@ pub never_small : (bytes : List ℕ) (i : ℕ) → is_ascii_lowercase (slice_ind
 never_small bytes i = not_true _ (passes capital (encode_upper bytes) (digits_pass capital refl refl bytes) refl i) where
   capital : ℕ → Bool
   capital c = if is_ascii_lowercase c then false else true
+
   not_true : (b : Bool) → (if b then false else true) ≡ true → b ≡ false
   not_true true h = cc h
   not_true false h = refl
