@@ -69,7 +69,7 @@ OUT_OF_MEMORY = "chanv: {}: out of memory\n"
 
 # a statement of Laws.v: what is proved, the law if it is one, and what is asked for its axioms
 STATED = re.compile(
-    r"^Check \(?(\w+)(?: : (\w+)\))?\.(?: +Print Assumptions (\w+)\.)?$", re.MULTILINE
+    r"^Check \(?(\w+)(?: : (\w+)\))?\.(?:\s+Print Assumptions (\w+)\.)?$", re.MULTILINE
 )
 
 # a part of Prelude.v, and another that no longer says what the kit does
