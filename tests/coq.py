@@ -50,6 +50,9 @@ DAMAGED = 2000
 # seconds of a processor that a deck may take, with 65,536 places and with 16 MiB of storage
 MOST = {"places-65536": 6, "chain-in-full-storage": 6}
 
+# how many columns a line of Coq may have
+WIDEST = 100
+
 # words of a clause of the contract of verify, and what Contract.v has in their place
 OF_CONTRACT = {
     "IfOk result": "IfOk answer",
@@ -167,6 +170,14 @@ def check_laws(checks, said):
     unfinished = r"\b(Axiom|Parameter|Conjecture|Admitted|admit|give_up)\b"
     for path in sorted(HERE.glob("*.v")):
         checks.expect(f"what {short(path)} leaves open", [], re.findall(unfinished, text_of(path)))
+
+
+def check_widths(checks):
+    """No line is wider than a page, but for what quotes the kit."""
+    for path in sorted(HERE.glob("*.v")):
+        wide = [line for line in text_of(path).splitlines() if len(line) > WIDEST]
+        mine = [line for line in wide if not re.search("[ℕ∷]", line)]
+        checks.expect(f"wide lines of {short(path)}", [], mine)
 
 
 def check_contract(checks):
@@ -463,6 +474,7 @@ def check(checks, built):
     if ran.status:
         raise CannotRun(f"make coq\n{ran.output}{ran.error}")
     check_laws(checks, ran.output)
+    check_widths(checks)
     check_contract(checks)
     check_marks(checks)
     check_translation(checks)
