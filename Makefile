@@ -36,19 +36,21 @@ run: libraries
 can_prove can_link can_test can_coq can_rustc:
 	@KIT='$(KIT)' CC='$(CC)' CROSS='$(CROSS)' tests/tools $(@:can_%=%)
 
-# One at a time: while rt is at work on a crate, nobody else may be on one that it stands on.
+# One at a time: while rt is at work on a crate, it lets nobody else at those that it stands on.
 libraries: can_prove $(LIBRARIES)
 
 $(LIBRARIES):
 	cd crates/$@ && rt lib --jobs $(JOBS)
 
-# Each is built after those that it stands on.
+# Each is built after those that it stands on. Over ckd_core, chan_args and chan_find, which are small,
+# more jobs would read the same libraries once more each.
 chan_areas: ccw_core
 chan_walk: chan_areas ckd_core
 chan_needs chan_why chan_find: chan_walk
 chan_args: ccw_core ckd_core
 chan_deck: chan_needs chan_why
 chan_run: chan_args chan_find chan_deck
+ckd_core chan_args chan_find: private JOBS = 1
 
 # Explains the verdict on a deck, with nothing proved: it compiles the sources as they are. The status
 # of a *no* is 1, and so is that of `rt` if nothing compiles, so that the verdict has to be there.
