@@ -1,6 +1,6 @@
 """The laws and a verifier in Coq: all is proved, nothing is lost in translation, verdicts agree.
 
-`make coq` proves every law of chan_walk, chan_needs and chan_deck with no axiom. The translator
+`make coq` proves every law of chan_walk, chan_needs, chan_why and chan_deck with no axiom. The translator
 takes exactly the definitions that closure.py counts, prints each back as its file has it, reads
 operators as the kit does, and refuses what it doesn't know, with file and line. Kit.v proves the
 laws of the kit's library of what Coq has in its place: each line that it quotes has a goal, over
@@ -63,7 +63,7 @@ OF_CONTRACT = {
 }
 
 # the files of laws, and how many reasons a no can have
-LAWS = ["chan_walk/src/laws.rt", "chan_needs/src/laws.rt", "chan_deck/src/laws.rt"]
+LAWS = [f"{it}/src/laws.rt" for it in ("chan_walk", "chan_needs", "chan_why", "chan_deck")]
 REASONS = 16
 
 # KiB of memory that are too few for a deck with 16 MiB of storage
