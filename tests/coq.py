@@ -93,7 +93,7 @@ OTHER_PRELUDES = [
     ("is_some o = true.", "is_some o = false."),
     ("forall k d, k < List", "forall k d, k <= List"),
     ("low <= k -> k < high -> P (nth k xs d).", "low < k -> k < high -> P (nth k xs d)."),
-    (":= forall d, P (nth k xs d).", ":= forall d, P (nth 0 xs d)."),
+    ("  forall d, P (nth k xs d).", "  forall d, P (nth 0 xs d)."),
     ("if b then P else Q.", "if b then Q else P."),
     ("R (f x) (f y).", "R (f y) (f x)."),
     (":= E x y && F x y.", ":= E x y || F x y."),

@@ -1,7 +1,6 @@
 -- A program that may store over what another guards does harm to it in some run of both.
-use Rattle.chan_walk.proofs.Names.{[], ap, At, byte, Ended, extents_of, first_cylinder, first_place, inl, inr, IsGuarded, IsProper, IsReachable, IsRun, IsVerdict, List, map, Moment, None, refl, storage_of, subst, sym, UsesInCcw, ℕ, ◌∙◌, ◌∷◌, ◌≡◌}
+use Rattle.chan_walk.proofs.Names.{[], ap, At, byte, Ended, extents_of, first_cylinder, first_place, inl, inr, IsGuarded, IsProper, IsRun, List, map, Moment, None, refl, storage_of, sym, ℕ, ◌∙◌, ◌∷◌, ◌≡◌}
 use Rattle.chan_walk.specs.declared.job.Job.{Job}
-use Rattle.chan_walk.specs.declared.verdict.Verdict.TheVariants.{Yes}
 use Rattle.chan_walk.specs.Alarm.{IsUsed}
 use Rattle.chan_walk.proofs.Machine.Alarm.{argument_used, ccw_used, run_to, start}
 use Rattle.chan_walk.proofs.Machine.Changed.{rewrite}

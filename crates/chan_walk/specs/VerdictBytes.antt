@@ -68,6 +68,14 @@ FaultyStartIsAll =
     → begins_set_mask (first_place j) (ccw_of j (first_place j)) ≡ false
     → IsVerdictByte j b → (j.start ≤ b) × (b < j.start + 8)
 
+-- nor are they more elsewhere: each belongs to a reachable CCW, unless a reachable place takes an
+-- argument
+abbrev pub VerdictByteIsOfCcw : Type 0
+VerdictByteIsOfCcw =
+    (j : Job) (b : ℕ) → IsVerdictByte j b
+    → IsCcwByte j b ⊎ ((p : Place) × IsReachable j p
+    × ((begins_seek p (ccw_of j p) ≡ true) ⊎ (begins_set_mask p (ccw_of j p) ≡ true)))
+
 -- under a yes each verdict byte is guarded
 abbrev pub VerdictByteIsGuarded : Type 0
 VerdictByteIsGuarded = (j : Job) → IsVerdict j Yes → (b : ℕ) → IsVerdictByte j b → IsGuarded j b

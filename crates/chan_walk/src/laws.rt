@@ -4,7 +4,7 @@
 ghost use Rattle.chan_walk.specs.Alarm.{EachPathIsRun, EachPathShows, GuardedIsUsed};
 ghost use Rattle.chan_walk.specs.Alarm.{HeadlineAloneIsEnough, NoFalseAlarm, SafeIsYes, StaysSafe};
 ghost use Rattle.chan_walk.specs.VerdictBytes.{FaultyStartIsAll, SafeSinceAsked, SameVerdict};
-ghost use Rattle.chan_walk.specs.VerdictBytes.{VerdictByteIsGuarded};
+ghost use Rattle.chan_walk.specs.VerdictBytes.{VerdictByteIsGuarded, VerdictByteIsOfCcw};
 ghost use Rattle.chan_walk.specs.VerdictBytes.{YesByGuarded, YesStays};
 ghost use Rattle.chan_walk.specs.Answers.{FewIsNotMany};
 ghost use Rattle.chan_walk.specs.Free.{MachineIsFree, SeekIsFree, SettingCanBe, StoredIsThere};
@@ -185,6 +185,13 @@ pub(crate) fn same_verdict()
 /// bytes are its eight bytes.
 pub(crate) fn faulty_start_is_all()
     ensures { FaultyStartIsAll }
+{}
+
+/// Each verdict byte belongs to a reachable CCW, unless a reachable place begins a seek or Set File
+/// Mask.
+#[tactic(auto, using(crate::proofs::Algorithms::FaultyStart::verdict_byte_is_of_ccw))]
+pub(crate) fn verdict_byte_is_of_ccw()
+    ensures { VerdictByteIsOfCcw }
 {}
 
 /// Where the verdict is yes, each verdict byte is guarded.

@@ -1,6 +1,6 @@
--- Where the first CCW has an own fault, nothing else counts for the verdict.
-use Rattle.chan_walk.proofs.Names.{[], begins_seek, begins_set_mask, both_ways, ccw_of, false, first_place, HasFault, inl, inr, IsCcwByte, IsClear, IsPath, IsReachable, IsVerdictByte, Job, List, None, Option, Place, Reason, Some, storage_of, subst, TakesArgumentByte, true, ℕ, ◌+◌, ◌<◌, ◌∷◌, ◌≡◌, ◌≤◌}
-use Rattle.chan_walk.specs.VerdictBytes.{FaultyStartIsAll}
+-- Which bytes count for the verdict at most: where the first CCW has an own fault, no others.
+use Rattle.chan_walk.proofs.Names.{[], begins_seek, begins_set_mask, both_ways, ccw_of, false, first_place, HasFault, inl, inr, IsCcwByte, IsClear, IsPath, IsReachable, IsVerdictByte, Job, List, None, Option, Place, Reason, Some, storage_of, subst, TakesArgumentByte, true, ℕ, ◌+◌, ◌<◌, ◌∷◌, ◌≡◌, ◌≤◌, ◌⊎◌}
+use Rattle.chan_walk.specs.VerdictBytes.{FaultyStartIsAll, VerdictByteIsOfCcw}
 use Rattle.chan_walk.proofs.Theory.Faults.{fault_unique}
 
 module _ (j : Job) (r : Reason) (faulty : HasFault j (first_place j) (Some r)) where
@@ -38,3 +38,13 @@ module _ (j : Job) (r : Reason) (faulty : HasFault j (first_place j) (Some r)) w
 
 pub faulty_start_is_all : FaultyStartIsAll
 faulty_start_is_all j r b faulty seek mask h = counted j r faulty seek mask b h
+
+pub verdict_byte_is_of_ccw : VerdictByteIsOfCcw
+verdict_byte_is_of_ccw j b (inl ccw) = inl ccw
+verdict_byte_is_of_ccw j b (inr (inl chain)) = inr (chain.seek, chain.reached, inl chain.seeks)
+verdict_byte_is_of_ccw j b (inr (inr taken)) = inr (taken.place, taken.reached, takes taken.takes)
+  where
+    takes : TakesArgumentByte (storage_of j) taken.place b
+        → (begins_seek taken.place (ccw_of j taken.place) ≡ true) ⊎ (begins_set_mask taken.place (ccw_of j taken.place) ≡ true)
+    takes (inl seek) = inl seek.seeks
+    takes (inr mask) = inr mask.sets

@@ -1,5 +1,5 @@
 -- The first of a job's offences is the verdict.
-use Rattle.chan_walk.proofs.Names.{[], AllByRecursion, ap, append-nil, append_assoc, Area, AreDistinct, AreReached, arith, BadFormat, Bool, both_ways, cases_lt, ccw_at-some, ccw_at-where, ChangesArgument, ChangesCcw, ChangesGuarded, common_steps, Contains-permutation, DataOutside, eq-eqb, eqb-true, false, FetchNotLent, get_or, Has, HasFault, HasOffences, HasOwnFault, Inhibited, inl, inr, InvalidCode, IsArgumentByte, IsCcwByte, IsClear, IsDistinct-IsPermutation, IsLook, IsNonDecreasingBy, IsPermutation, IsPermutation-map, IsPermutation-sym, IsReachable, IsStrictlyIncreasing, IsStrictlyIncreasing-from_distinct, IsStrictlySortedBy, IsTrue, Job, length, Less, lies_in, List, map, map-append, min, Misaligned, nat_cmp, None, NotInTable, offence_number, Offends, Option, OutsideStorage, Place, place_of, places_of_looks, Reason, refl, rules, SeekOutside, Seen, ShortSeek, slice_get, Some, StoreNotLent, StoresOver, subst, sym, take, TransferNotAllowed, true, way_of, WeakensMask, ZeroCount, ℕ, ◌++◌, ◌<◌, ◌==◌, ◌↔◌, ◌∙◌, ◌∷◌, ◌≡◌, ◌≤◌, ◌⊎◌}
+use Rattle.chan_walk.proofs.Names.{[], AllByRecursion, ap, append-nil, append_assoc, Area, AreDistinct, AreReached, arith, BadFormat, Bool, both_ways, cases_lt, ccw_at-some, ccw_at-where, ChangesArgument, ChangesCcw, ChangesGuarded, common_steps, DataOutside, eq-eqb, eqb-true, false, FetchNotLent, get_or, Has, HasFault, HasOffences, HasOwnFault, Inhibited, inl, inr, InvalidCode, IsArgumentByte, IsCcwByte, IsClear, IsDistinct-IsPermutation, IsLook, IsNonDecreasingBy, IsPermutation, IsPermutation-map, IsReachable, IsStrictlyIncreasing, IsStrictlyIncreasing-from_distinct, IsStrictlySortedBy, IsTrue, Job, length, Less, lies_in, List, map, map-append, min, Misaligned, nat_cmp, None, NotInTable, offence_number, Offends, Option, OutsideStorage, Place, place_of, places_of_looks, Reason, refl, rules, SeekOutside, Seen, ShortSeek, slice_get, Some, StoreNotLent, StoresOver, subst, sym, take, TransferNotAllowed, true, way_of, WeakensMask, ZeroCount, ℕ, ◌++◌, ◌<◌, ◌==◌, ◌↔◌, ◌∙◌, ◌∷◌, ◌≡◌, ◌≤◌, ◌⊎◌}
 use Rattle.std.proofs.Common.{drop}
 use Rattle.std.proofs.lemmas.List.{length-take, take-append-drop}
 use Rattle.std.proofs.lemmas.Map.Keys.{sorted_from_strictly_increasing}
@@ -10,7 +10,7 @@ use Rattle.chan_walk.specs.Verdict.{ComesFirst}
 use Rattle.chan_walk.proofs.Theory.Checks.{check_stands}
 use Rattle.chan_walk.proofs.Theory.Faults.{clear_check, fault_unique}
 use Rattle.chan_walk.proofs.Algorithms.InOrder.{cmp_less, distinct_numbers}
-use Rattle.chan_walk.proofs.Theory.Lists.{contains_has, has_cases, has_contains, has_left, has_push, has_right, at_has}
+use Rattle.chan_walk.proofs.Theory.Lists.{has_cases, has_left, has_push, has_right, at_has}
 use Rattle.chan_walk.proofs.Algorithms.Looking.{number_of_places, place_at}
 use Rattle.chan_walk.proofs.Algorithms.Marks.{same_place, way_small}
 use Rattle.chan_walk.proofs.Algorithms.Sorting.{eqb_flips, non_decreasing}

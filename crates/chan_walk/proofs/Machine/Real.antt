@@ -1,10 +1,10 @@
 -- A yes holds on a real channel with a real disk too, and these can do all that the machine does.
-use Rattle.chan_walk.proofs.Names.{[], AllByRecursion, ap, At, byte, Checked, Ended, extents_of, Gathered, Has, has_cylinder, HasMask, HoldsInitialByte, inl, inr, IsGuarded, IsRunAmong, IsSameIn, IsVerdict, Job, List, Moment, Place, refl, Seek, Some, Stage, Store, storage_of, subst, sym, true, Uses, Yes, ℕ, ◌∙◌, ◌∷◌, ◌≡◌, ◌⊎◌}
+use Rattle.chan_walk.proofs.Names.{[], AllByRecursion, At, Checked, Ended, extents_of, Gathered, Has, has_cylinder, HasMask, HoldsInitialByte, inl, inr, IsGuarded, IsSameIn, IsVerdict, Job, List, Moment, Place, refl, Seek, Some, Stage, Store, subst, sym, true, Uses, Yes, ℕ, ◌∙◌, ◌∷◌, ◌≡◌, ◌⊎◌}
 use Rattle.chan_walk.specs.Machine.{StepFrom}
 use Rattle.chan_walk.specs.RealRuns.{EachRunIsReal, HasStored, IsRealRun, IsSafeForReal, StepsForReal, YesIsSafeForReal}
-use Rattle.chan_walk.specs.Runs.{IsStart, Steps, Waits}
+use Rattle.chan_walk.specs.Runs.{IsStart, Steps}
 use Rattle.chan_walk.proofs.Theory.Lists.{all_map}
-use Rattle.chan_walk.proofs.Machine.Invariant.{Invariant, IsStageKept, IsStrict, Stepped}
+use Rattle.chan_walk.proofs.Machine.Invariant.{Invariant, IsStageKept, Stepped}
 use Rattle.chan_walk.proofs.Machine.Storing.{step_kept, StoresAt}
 use Rattle.chan_walk.proofs.Machine.Waiting.{WaitsSpared, waits_kept}
 use Rattle.chan_walk.proofs.Machine.Yes.{all_guarded, from_ok, shows_spared, start_ok, unchecked, UsesGuarded, uses_guarded, without_events}

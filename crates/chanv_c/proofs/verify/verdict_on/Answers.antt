@@ -2,4 +2,4 @@
 use Rattle.chanv_c.proofs.verify.verdict_on.Goals as goal
 
 pub returns-clause-answer : goal.returns-clause-answer
-returns-clause-answer c = record { job = c.job.result; asked = c.job.ensures; answer = c.in_ok-verify.ensures }
+returns-clause-answer c = record { job = c.job.result; asked = c.job.ensures; answer = c.in_ok-verify.ensures.answer }
