@@ -18,6 +18,7 @@ from sources import CRATES
 
 sys.path.insert(0, str(ROOT / "coq"))
 
+from coq_terms import parts_of  # noqa: E402
 from translate import Abbrev, Data, Record, Refused, Translation, parts, walk  # noqa: E402
 
 LAWS_OF = ["chan_walk", "chan_needs"]
@@ -27,15 +28,6 @@ CLAUSE = re.compile(r"(?m)^ +ensures (?:\w+ )?\{ ((?:.|\n +)*?) \}$")
 # which sign the first argument of these notions of the kit has; any other has both
 OF_THE_KIT = {"AllByRecursion": {1}, "All": {1}}
 BOTH = {1, -1}
-
-
-def spine(term):
-    """What is applied, and to what."""
-    handed = []
-    while term[0] == "app":
-        handed.insert(0, term[2])
-        term = term[1]
-    return term, handed
 
 
 def names_of(patterns):
@@ -102,7 +94,7 @@ class Notions:
         if kind == "name":
             yield (term[1] if term[1] in bound else self.key_of(term[1], source)), sign
         elif kind == "app":
-            head, handed = spine(term)
+            head, handed = parts_of(term)
             yield from self.occurrences(head, sign, source, bound)
             for one, signs in zip(handed, self.handed_signs(head, len(handed), source, bound)):
                 for other in signs:
