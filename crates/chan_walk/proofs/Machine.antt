@@ -5,6 +5,7 @@ pub mod Invariant
 pub mod Waiting
 pub mod Yes
 pub mod Real
+pub mod Early
 pub mod Quiet
 pub mod Paths
 pub mod Operations

@@ -14,7 +14,7 @@ ghost use Rattle.chan_walk.specs.Headline.{YesIsSafe, YesIsSafeAmong};
 ghost use Rattle.chan_walk.specs.Offence.{FirstIsVerdict};
 ghost use Rattle.chan_walk.specs.OpenJob.{MoreIsYes, OpenJobIsOpen, SameUnderYes};
 ghost use Rattle.chan_walk.specs.Order.{NumbersIncrease};
-ghost use Rattle.chan_walk.specs.RealRuns.{EachRunIsReal, YesIsSafeForReal};
+ghost use Rattle.chan_walk.specs.RealRuns.{EachRunIsReal, EarlyRunIsRun, YesIsSafeForReal};
 ghost use Rattle.chan_walk.specs.Verdict.{OneVerdict};
 
 /// Where the verdict is yes, guarded bytes never change, in any run among others.
@@ -61,6 +61,12 @@ pub(crate) fn yes_is_safe_for_real()
 #[tactic(auto, using(crate::proofs::Machine::Real::each_run_is_real))]
 pub(crate) fn each_run_is_real()
     ensures { EachRunIsReal }
+{}
+
+/// Where the verdict is yes, the runs whose CCWs are fetched early are the runs among others.
+#[tactic(auto, using(crate::proofs::Machine::Early::early_run_is_run))]
+pub(crate) fn early_run_is_run()
+    ensures { EarlyRunIsRun }
 {}
 
 /// Each path is the places of a run that begins at the first cylinder of the first extent and

@@ -10,7 +10,7 @@ use Rattle.chan_walk.proofs.Machine.Waiting.{WaitsSpared, waits_kept}
 use Rattle.chan_walk.proofs.Machine.Yes.{all_guarded, from_ok, shows_spared, start_ok, unchecked, UsesGuarded, uses_guarded, without_events}
 
 -- what holds of each moment holds of one
-one_of : (P : Moment → Type 0) (ms : List Moment) (m : Moment) → AllByRecursion P ms → Has ms m → P m
+pub one_of : (P : Moment → Type 0) (ms : List Moment) (m : Moment) → AllByRecursion P ms → Has ms m → P m
 one_of P [] m all has = absurd has
 one_of P (n ∷ ms) m all (inl same) = subst P same all.0
 one_of P (n ∷ ms) m all (inr has) = one_of P ms m all.1 has
