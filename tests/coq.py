@@ -50,8 +50,11 @@ DAMAGED = 2000
 # seconds of a processor that a deck may take, with 65,536 places and with 16 MiB of storage
 MOST = {"places-65536": 6, "chain-in-full-storage": 6}
 
-# how many columns a line of Coq may have
+# how many columns a line of Coq may have; a proof, where it branches, and two sentences on a line
 WIDEST = 100
+PROOF = re.compile(r"(?s)\bProof\.\s(.*?)\b(?:Qed|Defined)\.")
+BRANCH = re.compile(r"(?m)^ *[-+*{] ")
+CROWDED = re.compile(r"(?m)^.*\w.*[^.]\. +[^\s}].*$")
 
 # words of a clause of the contract of verify, and what Contract.v has in their place
 OF_CONTRACT = {
@@ -172,12 +175,18 @@ def check_laws(checks, said):
         checks.expect(f"what {short(path)} leaves open", [], re.findall(unfinished, text_of(path)))
 
 
-def check_widths(checks):
-    """No line is wider than a page, but for what quotes the kit."""
+def check_lines(checks):
+    """No line is wider than a page, but for what quotes the kit. Where a proof branches, each
+    sentence has a line."""
     for path in sorted(HERE.glob("*.v")):
-        wide = [line for line in text_of(path).splitlines() if len(line) > WIDEST]
+        text = text_of(path)
+        wide = [line for line in text.splitlines() if len(line) > WIDEST]
         mine = [line for line in wide if not re.search("[ℕ∷]", line)]
         checks.expect(f"wide lines of {short(path)}", [], mine)
+        proofs = PROOF.findall(re.sub(r"(?s)\(\*.*?\*\)", "", text))
+        branched = [proof for proof in proofs if BRANCH.search(proof)]
+        crowded = [line for proof in branched for line in CROWDED.findall(proof)]
+        checks.expect(f"crowded lines of {short(path)}", [], crowded)
 
 
 def check_contract(checks):
@@ -474,7 +483,7 @@ def check(checks, built):
     if ran.status:
         raise CannotRun(f"make coq\n{ran.output}{ran.error}")
     check_laws(checks, ran.output)
-    check_widths(checks)
+    check_lines(checks)
     check_contract(checks)
     check_marks(checks)
     check_translation(checks)
