@@ -27,7 +27,7 @@ MAY_ASK_FOR = {"memcpy", "memmove", "memset", "malloc", "realloc", "free"}
 OF_THE_RUNTIME = {"rattle_alloc", "rattle_realloc", "rattle_dealloc"}
 NAMES = "verify list why text take_in check_start check_write check_kept find version".split()
 NAMES += "row_storing row_keeping".split()
-NAMES += "is_fault reason_word answer_word refusal_word entered_word".split()
+NAMES += "make_prefix is_fault reason_word answer_word refusal_word entered_word".split()
 CALLS = {f"chanv_{name}" for name in NAMES}
 LAYOUT = ROOT / "crates/chanv_c/include/layout.txt"
 # warnings that a program's own build may ask for
@@ -150,6 +150,7 @@ RIGHT = [
     "chanv_check_start(&job, NULL, 0, &it, &no)",
     "chanv_check_write(NULL, 0, &area, &no)",
     "chanv_check_kept(&it, NULL, 0, &no)",
+    "chanv_make_prefix(&job, 0, NULL, 0, &len)",
     "chanv_find(&job.storage, 2314, NULL, 0, &len)",
 ]
 ASKING = """#include <chanv.h>
@@ -240,7 +241,7 @@ def check_hardening(checks, library):
 def refuse_growths(checks, folder):
     growths, program = Growths(folder), folder / "one_call"
     answers = {"verify": "yes", "list": "3", "why": "2 3", "take_in": "yes"}
-    answers |= {"check_start": "yes", "check_kept": "yes", "find": "1", "text": "no"}
+    answers |= {"check_start": "yes", "check_kept": "yes", "find": "1", "text": "no", "make_prefix": "yes"}
     setup = [program, "setup"]
     for call, answer in answers.items():
         case = Case(f"chanv_{call}", [program, call], Ran(0, f"{answer}\n"), before=setup)

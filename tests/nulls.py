@@ -40,6 +40,8 @@ CALLS = [
     ("kept_elsewhere", OF_ROWS, "1 1 1 0 1 0"),
     ("kept_nowhere", ["areas"], "1 1"),
     ("find", ["storage", "starts"], "0 11 0"),
+    ("prefix", OF_JOB, "1 7 0 0 7"),
+    ("prefix_into", ["bytes"], "11 11"),
 ]
 
 
@@ -219,6 +221,16 @@ class Asking:
     def kept_of(self, program, areas, count):
         given = program, areas, c_size_t(count), self.c.Refusal
         return self.written(self.library.chanv_check_kept, *given)
+
+    def prefix(self):
+        return self.prefix_of(self.job(), 100)
+
+    def prefix_into(self):
+        return self.prefix_of(self.full(), 0)
+
+    def prefix_of(self, job, number):
+        given = job, c_uint32(0x700), *self.rows(number, c_uint8, 64)
+        return self.counted(self.library.chanv_make_prefix, *given)
 
     def find(self):
         image, rows = self.bytes_at(0), self.rows(1, c_uint32)

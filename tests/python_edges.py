@@ -208,6 +208,46 @@ def check_devices(checks, chanv):
             checks.expect(f"a program for a {device} on a {other}", line, found)
 
 
+# ---- the prefix
+
+# a mask, the address of a prefix, the program's start, the first cylinder, and the bytes
+PREFIXES = [
+    (0x00, 0x000, 0x800, 0, "0700001040000006 0800080000000000 0000000000000000"),
+    (0x00, 0x9E8, 0x800, 202, "070009F840000006 0800080000000000 000000CA00000000"),
+    (0x40, 0x100, 0x808, 10, "0700011840000006 1F00011E40000001 0800080800000000 0000000A00004000"),
+    (0x58, 0xFE0, 0x800, 201, "07000FF840000006 1F000FFE40000001 0800080000000000 000000C900005800"),
+]
+# where none can stand, by mask, address and start: off a multiple of 8, past storage, or before a
+# program that starts past storage
+NOWHERE = [
+    *((0x40, at, 0x800) for at in (1, 2, 4, 7, 0x104, 0xFE8, 0xFF8, SIZE, 2**24, 2**32 - 8)),
+    *((0x00, at, 0x800) for at in (0xFEC, 0xFF0, 0xFF8, SIZE, 2**32 - 8)),
+    *((mask, 0x100, at) for mask in (0x00, 0x40) for at in (SIZE, 2**24, 2**32 - 8)),
+]
+
+
+def check_prefixes(checks, chanv):
+    """The prefix of a job, byte for byte, and that a program that begins with it is judged so."""
+    for mask, address, start, cylinder, words in PREFIXES:
+        some = [(cylinder, cylinder), (5, 7)]
+        job = job_of(chanv, LOOP, start, mask=mask, extents=some)
+        name = f"the prefix under mask {mask:02X} at {address:06X}"
+        made = error_of(lambda: chanv.make_prefix(job, address))
+        checks.expect(name, bytes.fromhex(words), made)
+        storage = bytearray(SIZE)
+        storage[address : address + len(made)] = made
+        storage[start : start + 8] = bytes.fromhex(SHORT)
+        whole = chanv.Job(storage, address, extents=some, fetch=EVERYWHERE)
+        checks.expect(f"{name}, judged", "yes", str(chanv.verify(whole)))
+    for mask, address, start in NOWHERE:
+        job = job_of(chanv, LOOP, start, mask=mask)
+        found = error_of(lambda: chanv.make_prefix(job, address))
+        checks.expect(f"no prefix at {address:X} to {start:X}", "ValueError", type(found).__name__)
+    for code, fault in [("NOT_A_MASK", {"mask": 1}), ("NO_EXTENT", {"extents": []})]:
+        found = error_of(lambda: chanv.make_prefix(job_of(chanv, LOOP, 0x800, **fault), 0x100))
+        checks.expect(f"a prefix under a fault: {code}", chanv.Answer[code], found.code)
+
+
 # ---- each code
 
 # what is wrong with the job, the code's name, and the index of the extent
@@ -517,6 +557,7 @@ def check(checks, built):
         check_notes_at_zero,
         check_hang_at_zero,
         check_devices,
+        check_prefixes,
         check_codes,
         check_limit,
         check_numbers,

@@ -65,25 +65,17 @@ static void guard_prefixes(const struct chanv_area *area)
     chanv_row_keeping(area, &in_flight[UNITS]);
 }
 
-static void put_ccw(uint8_t *at, uint8_t code, uint32_t address, uint8_t flags, uint8_t count)
+/* Puts the prefix with which a program starts into storage, at an address of the prefixes, a
+ * multiple of 8; the channel is started there. It moves the arm into the extents, sets the job's
+ * mask, and goes on to the program in the same chain. */
+static int put_prefix(uint8_t *storage, uint32_t address, const struct chanv_job *job)
 {
-    const uint8_t ccw[] = {code,  (uint8_t)(address >> 16), (uint8_t)(address >> 8),
-                           (uint8_t)address, flags, 0, 0, count};
-    memcpy(at, ccw, sizeof ccw);
-}
-
-/* The prefix with which a program starts: it moves the arm into the extents, sets the job's mask,
- * and goes on to the program in the same chain. It stands at an address of the prefixes, a multiple
- * of 8; the channel is started there. */
-static void make_prefix(uint8_t bytes[PREFIX_BYTES], uint32_t address, const struct chanv_job *job)
-{
-    enum { SEEK = 0x07, SET_FILE_MASK = 0x1F, TRANSFER = 0x08, CHAIN_COMMAND = 0x40 };
-    uint16_t cylinder = job->extents.at[0].first;
-    const uint8_t last[] = {0, 0, (uint8_t)(cylinder >> 8), (uint8_t)cylinder, 0, 0, job->mask, 0};
-    put_ccw(bytes, SEEK, address + 24, CHAIN_COMMAND, 6);
-    put_ccw(bytes + 8, SET_FILE_MASK, address + 30, CHAIN_COMMAND, 1);
-    put_ccw(bytes + 16, TRANSFER, job->start, 0, 0);
-    memcpy(bytes + 24, last, sizeof last);
+    uint8_t prefix[PREFIX_BYTES];
+    size_t len;
+    if (chanv_make_prefix(job, address, prefix, sizeof prefix, &len) != CHANV_OK)
+        return 0;
+    memcpy(storage + address, prefix, len);
+    return 1;
 }
 
 /* Starts the program on a unit that is free, if it may start. It is in flight until the channel

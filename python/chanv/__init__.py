@@ -60,6 +60,7 @@ __all__ = [
     "keeping",
     "keeps_only",
     "library_version",
+    "make_prefix",
     "may_start",
     "may_write",
     "needs",
@@ -93,15 +94,17 @@ _VALUES = {
     "weakens-mask": "mask value",
 }
 
-# the refusals with an address or a cylinder, and those with a program in flight
-_OVER_KEPT = "stores-over-kept keeps-stored-over writes-over-kept".split()
-_WITH_VALUE = "changed no-cylinder not-fetchable not-storable keeps-outside".split() + _OVER_KEPT
+# the refusals with an address or a cylinder
+_WITH_VALUE = "changed no-cylinder not-fetchable not-storable keeps-outside".split()
+_WITH_VALUE += "stores-over-kept keeps-stored-over writes-over-kept".split()
 
 # what the open job of a program grants
 _ALL_CYLINDERS, _ALL_STORAGE, _OPEN_MASK = (0, 202), (0, 16777216), 0xC0
 
 # how many bytes `needs` hands in at first, which most programs don't fill
 _ROOM = 1024
+# the most bytes that a prefix has
+_PREFIX = 32
 
 
 class Answer(IntEnum):
@@ -367,6 +370,20 @@ def needs(job: Job) -> Program:
     return _program(made, out)  # the lists are in `room`
 
 
+def make_prefix(job: Job, address: int) -> bytes:
+    """The prefix through which the job's program starts, for the address at which it will stand: it
+    moves the arm into the extents, sets the job's mask, and goes on to the program in the same
+    chain. It raises ValueError if it can't stand there."""
+    length, prefix = c_size_t(), create_string_buffer(_PREFIX)
+    with _job(job, job.storage) as made:
+        given = c_uint32(_c.number(address, 32)), prefix, c_size_t(_PREFIX), byref(length)
+        answer = _c.library.chanv_make_prefix(byref(made), *given)
+    _must_answer(answer, 0)
+    if answer == _c.NO:
+        raise ValueError("no prefix can stand at this address")
+    return prefix.raw[: length.value]
+
+
 def keeps_only(program: Program, areas: Pairs) -> Permission:
     """Whether a program keeps only bytes of these areas, pairs of start and length in any order."""
     out, made = _c.Refusal(), _c.areas(_c.pairs(areas, 32))
@@ -479,7 +496,7 @@ def _permission(out: _c.Refusal) -> Permission:
         return Permission()
     word = _word("refusal", out.code)
     value = out.value if word in _WITH_VALUE else None
-    return Permission(word, value, out.program if word in _OVER_KEPT else None)
+    return Permission(word, value, None if out.program == _c.NOBODY else out.program)
 
 
 def _program(made: _c.Program, out: _c.Needed) -> Program:

@@ -17,6 +17,9 @@ SONAME = "libchanv.so.0.8"
 # the codes that this package tells apart
 YES, NO, NO_ROOM = 0, 1, 11
 
+# the index of no program in a table
+NOBODY = c_size_t(-1).value
+
 # the bit of chanv_version that says that nothing of the library is proved
 NOT_PROVED = 0x80000000
 

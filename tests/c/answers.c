@@ -93,7 +93,8 @@ static void try_prefix(void)
     struct chanv_job job = job_of(READ, 2), whole;
     struct chanv_verdict verdict;
     job.extents.at = &some, job.mask = 0x80;
-    make_prefix(storage + prefixes.start, prefixes.start, &job);
+    if (!put_prefix(storage, prefixes.start, &job))
+        abort();
     for (int i = 0; i < PREFIX_BYTES; i++)
         printf("%s%02X", i == 0 ? "prefix " : i % 8 == 0 ? " " : "", storage[prefixes.start + i]);
     whole = job, whole.start = prefixes.start, whole.mask = 0x00;

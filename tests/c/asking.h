@@ -146,8 +146,9 @@ static inline void print_refusal(uint32_t answer, const struct chanv_refusal *re
 {
     printf("%" PRIu32, answer);
     if (refusal->code != 0)
-        printf(" %s %" PRIX32 " of %zu", chanv_refusal_word(refusal->code), refusal->value,
-               refusal->program);
+        printf(" %s %" PRIX32, chanv_refusal_word(refusal->code), refusal->value);
+    if (refusal->program != CHANV_NOBODY)
+        printf(" of %zu", refusal->program);
     if (refusal->extent != 0)
         printf(", wrong extent %zu", refusal->extent);
 }

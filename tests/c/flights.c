@@ -31,8 +31,9 @@ const struct chanv_program *flights_program(int number)
 /* The channel begins with the prefix; the model begins behind it, as premise 2 has it. */
 int flights_start(int number, int unit, const struct chanv_job *job)
 {
-    uint8_t prefix[PREFIX_BYTES];
-    make_prefix(prefix, 0x5C0, job);
+    static uint8_t storage[0x600];
+    if (!put_prefix(storage, 0x5C0, job))
+        return 0;
     return start(&programs[number], unit, job);
 }
 

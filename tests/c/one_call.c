@@ -118,7 +118,7 @@ static const struct chanv_program program = {
 /* With itself in flight: it keeps no byte that it stores into. */
 static int check_start(const struct chanv_job *job)
 {
-    static const struct chanv_refusal none;
+    static const struct chanv_refusal none = {.program = CHANV_NOBODY};
     struct chanv_refusal refusal;
     memset(&refusal, 7, sizeof refusal);
     uint32_t answer = chanv_check_start(job, &program, 1, &program, &refusal);
@@ -140,7 +140,7 @@ static int check_write(const struct chanv_job *job)
 static int check_kept(const struct chanv_job *job)
 {
     static const struct chanv_area areas[] = {{0x900, 5}, {0x800, 0x18}};
-    static const struct chanv_refusal none;
+    static const struct chanv_refusal none = {.program = CHANV_NOBODY};
     struct chanv_refusal refusal;
     (void)job;
     memset(&refusal, 7, sizeof refusal);
@@ -148,6 +148,20 @@ static int check_kept(const struct chanv_job *job)
     if (memcmp(&refusal, &none, sizeof none) != 0)
         return 99;
     return answer == CHANV_YES ? say("yes\n") : (int)answer;
+}
+
+/* Under mask 00 the prefix is a Seek, a transfer and the seek's argument. */
+static int make_prefix(const struct chanv_job *job)
+{
+    static const uint8_t wanted[] = {7, 0, 1, 0x10, 0x40, 0, 0, 6, 8, 0, 8, 0, 0,
+                                     0, 0, 0, 0,    0,    0, 10, 0, 0, 0, 0, 99};
+    uint8_t bytes[sizeof wanted];
+    size_t len = 7;
+    memset(bytes, 99, sizeof bytes);
+    uint32_t answer = chanv_make_prefix(job, 0x100, bytes, sizeof bytes, &len);
+    if (answer != CHANV_OK)
+        return len == 0 && bytes[0] == 99 ? (int)answer : 99;
+    return len == 24 && memcmp(bytes, wanted, sizeof wanted) == 0 ? say("yes\n") : 99;
 }
 
 static int find(const struct chanv_job *job)
@@ -169,7 +183,7 @@ static const struct call {
     {"why", why},                 {"text", text},
     {"take_in", take_in},         {"check_start", check_start},
     {"check_write", check_write}, {"check_kept", check_kept},
-    {"find", find},
+    {"find", find},               {"make_prefix", make_prefix},
 };
 
 int main(int argc, char **argv)

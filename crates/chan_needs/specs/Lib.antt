@@ -8,3 +8,4 @@ pub mod Remembered
 pub mod Start
 pub mod Supervised
 pub mod Staying
+pub mod Prefix

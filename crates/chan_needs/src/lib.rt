@@ -14,11 +14,13 @@ mod layout;
 mod least_bytes;
 mod needed_mask;
 mod needs;
+mod prefix;
 mod remembered;
 mod start;
 
 pub use crate::conflict::Conflict;
 pub use crate::layout::{Extent, NeedLists, Remembered, or_empty, pairs_of};
 pub use crate::needs::{Needs, needs_from};
+pub use crate::prefix::prefix_at;
 pub use crate::remembered::{check_write, copy_kept, kept_len, kept_outside};
 pub use crate::start::{Start, StartRefusal, check_start};

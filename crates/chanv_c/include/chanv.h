@@ -23,7 +23,7 @@
  *     in the table throughout write its kept bytes, and others only after CHANV_YES from
  *     `chanv_check_write`, asked with the program in the table. All other bytes may change at any
  *     time.
- *   - `chanv_check_write` and `chanv_check_kept` don't read storage.
+ *   - `chanv_check_write`, `chanv_check_kept` and `chanv_make_prefix` don't read storage.
  *   - During `chanv_verify`, `chanv_why`, `chanv_list`, `chanv_find` and the calls for texts
  *     nothing may write storage: ask about quiet storage, or about a copy. Otherwise the answer
  *     means nothing. The call still returns with one of its codes and writes nothing else; this is
@@ -345,8 +345,11 @@ enum chanv_refused {
     CHANV_REFUSED_KEEPS_OUTSIDE = 12      /* `value`: the least byte kept outside the areas */
 };
 
+/* The index of no program: a row of the table that has it would lie past all memory. */
+#define CHANV_NOBODY SIZE_MAX
+
 /* A refusal of `chanv_check_start`, `chanv_check_write` or `chanv_check_kept`; unused fields are
- * 0. */
+ * 0, but `program` is then CHANV_NOBODY. */
 struct chanv_refusal {
     size_t extent;  /* the index of the job's first wrong extent */
     size_t program; /* the index in `in_flight` of the first program in the way */
@@ -478,6 +481,22 @@ CHANV_NOT_NULL(1, 2)
 void chanv_row_storing(const struct chanv_area *area, struct chanv_program *row);
 CHANV_NOT_NULL(1, 2)
 void chanv_row_keeping(const struct chanv_area *area, struct chanv_program *row);
+
+/* Makes the prefix through which the job's program starts, for the address at which it will stand:
+ * a Seek to the first cylinder of the first extent, a Set File Mask with the job's mask, a transfer
+ * to the job's start, and what the first two take. It has 32 bytes. Under mask 00, with which each
+ * chain begins, it has 24 bytes and no Set File Mask.
+ *
+ * CHANV_OK: the first `*len` bytes of `bytes` are the prefix; the other bytes keep their values.
+ * CHANV_NO: it can't stand there: the address isn't a multiple of 8, or the prefix or the job's
+ * start reaches past storage.
+ * CHANV_NO_ROOM: the prefix has `*len` bytes, more than `room`.
+ * Otherwise the call returns why there is no answer, like `chanv_verify`, but it counts no places.
+ * `*len` is 0 unless the answer is CHANV_OK or CHANV_NO_ROOM. A byte of `bytes` is written only for
+ * CHANV_OK. Copy the bytes into storage once the program may start; `bytes` itself lies apart. */
+CHANV_MUST_USE CHANV_NOT_NULL(1, 5)
+enum chanv_answer chanv_make_prefix(const struct chanv_job *job, uint32_t address, uint8_t *bytes,
+                                    size_t room, size_t *len);
 
 /* Which channel programs for this type of device are in storage? Their starts are listed once each,
  * in order; docs/OLD-PROGRAMS.md says which starts these are.

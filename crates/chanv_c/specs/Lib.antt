@@ -8,3 +8,4 @@ pub mod Find
 pub mod Start
 pub mod Version
 pub mod Text
+pub mod Prefix

@@ -47,9 +47,10 @@ StartsIfDue c p fs Answered =
 
 -- ---- what is told
 
--- a refusal's number, and an address or a cylinder
+-- a refusal's number, and an address or a cylinder; no program is named
 abbrev pub refused : ℕ → ℕ → CRefusal
-refused code value = record { extent = 0; program = 0; code = code; value = value }
+refused code value =
+    record { extent = 0; program = codes.NOBODY; code = code; value = value }
 
 -- nothing but which extent is wrong
 abbrev pub no_refusal_for_c : ℕ → CRefusal

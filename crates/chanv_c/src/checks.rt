@@ -15,10 +15,10 @@ ghost use Rattle.chanv_c.specs.declared.codes.TheConstants.{STORAGE_TOO_LARGE};
 
 use crate::c_job::{CJob, make_ready};
 use crate::codes::{
-    MEMORY, NO, REFUSED_CHANGED, REFUSED_KEEPS_OUTSIDE, REFUSED_KEEPS_STORED_OVER, REFUSED_MASK,
-    REFUSED_NO_CYLINDER, REFUSED_NOT_FETCHABLE, REFUSED_NOT_STORABLE, REFUSED_OTHER_DEVICE,
-    REFUSED_OTHER_LENGTH, REFUSED_OTHER_START, REFUSED_STORES_OVER_KEPT, REFUSED_WRITES_OVER_KEPT,
-    YES,
+    MEMORY, NO, NOBODY, REFUSED_CHANGED, REFUSED_KEEPS_OUTSIDE, REFUSED_KEEPS_STORED_OVER,
+    REFUSED_MASK, REFUSED_NO_CYLINDER, REFUSED_NOT_FETCHABLE, REFUSED_NOT_STORABLE,
+    REFUSED_OTHER_DEVICE, REFUSED_OTHER_LENGTH, REFUSED_OTHER_START, REFUSED_STORES_OVER_KEPT,
+    REFUSED_WRITES_OVER_KEPT, YES,
 };
 use crate::refusal::Refusal;
 use ccw_core::Area;
@@ -37,10 +37,10 @@ pub struct CRefusal {
     pub value: u32,
 }
 
-/// The refusal of an answer that isn't a refusal: all zeros.
+/// The refusal of an answer that isn't a refusal: it names nobody, and all else is 0.
 const NO_REFUSAL: CRefusal = CRefusal {
     extent: 0,
-    program: 0,
+    program: NOBODY,
     code: 0,
     value: 0,
 };

@@ -1,5 +1,5 @@
 //! The numbers of the header, by its names without `CHANV_`: what calls return, and why a program
-//! may not start, others may not write, or a program keeps too much.
+//! may not start, others may not write, or a program keeps too much; and the index of nobody.
 
 pub(crate) const YES: u32 = 0;
 
@@ -50,3 +50,5 @@ pub(crate) const REFUSED_KEEPS_STORED_OVER: u32 = 10;
 pub(crate) const REFUSED_WRITES_OVER_KEPT: u32 = 11;
 
 pub(crate) const REFUSED_KEEPS_OUTSIDE: u32 = 12;
+
+pub(crate) const NOBODY: usize = usize::MAX;

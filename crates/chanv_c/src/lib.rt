@@ -13,6 +13,7 @@ mod find;
 mod laws;
 mod library_version;
 mod list;
+mod prefix;
 mod refusal;
 mod take_in;
 mod text;
@@ -26,6 +27,7 @@ pub use crate::checks::{CRefusal, chanv_check_kept, chanv_check_start, chanv_che
 pub use crate::find::{CBytes, chanv_find};
 pub use crate::library_version::chanv_version;
 pub use crate::list::chanv_list;
+pub use crate::prefix::chanv_make_prefix;
 pub use crate::take_in::{CNeeded, needs_by_copy};
 pub use crate::text::chanv_text;
 pub use crate::verify::{CVerdict, chanv_verify};
