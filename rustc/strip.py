@@ -25,6 +25,8 @@ ROOT = HERE.parent
 
 # Rust's crates that are used as they are. Every other crate that crates.txt names is in shims/.
 REAL = ["arrayvec", "byteorder", "itoa", "thiserror"]
+# What the library of the package chanv uses besides what the program uses.
+LIBRARY = ["chan_deck", "chan_find", "chan_needs", "chan_walk", "chan_why", "ckd_core", "thiserror"]
 # Where Debian's packages put Rust's crates, and the crates that are needed, each with the first
 # version that serves and the first that may not.
 DEBIAN = Path("/usr/share/cargo/registry")
@@ -54,8 +56,11 @@ PRELUDE = "#[allow(unused_imports)] use ::kit::prelude::*; "
 
 
 def derived(found):
-    """A derive without `Drop`: Rust drops every value."""
+    """A derive without `Drop`, because Rust drops every value. Public types that can be copied get
+    `Debug`, because users of the library for Rust print them."""
     names = [name for name in found[1].split(", ") if name != "Drop"]
+    if found[2] and "Copy" in names and "Debug" not in names:
+        names.append("Debug")
     return f"#[derive({', '.join(names)})]" if names else ""
 
 
@@ -103,7 +108,7 @@ def called_by_c(found):
 # What Rust has otherwise: derives and bounds of `Drop`, the writer of a `fmt`, the runtime that
 # `main` or a test is given, and what C calls, lays out, and may write meanwhile.
 FORMS = [
-    (re.compile(r"#\[derive\(([\w, ]*)\)\]"), derived),
+    (re.compile(r"#\[derive\(([\w, ]*)\)\](?=(\npub \w+ \w+ \{)?)"), derived),
     (re.compile(r"(?<=\w)(?::| \+) Drop\b"), lambda found: ""),
     (
         re.compile(r"fn fmt<W: fmt::Write>\(&self, f: &mut fmt::Formatter<W>\)"),
@@ -194,15 +199,19 @@ def crates():
 
 
 def manifest(name, words, needs, own):
-    """The Cargo.toml of a crate. The program is named so that it isn't taken for the proved one."""
+    """The Cargo.toml of a crate. The program is named so that it isn't taken for the proved one, and
+    its package has the library for Rust, whose examples alone are Rust's."""
     [version] = re.findall(r"(?m)^VERSION = (.*)$", (ROOT / "Makefile").read_text())
     lines = ["[package]", f'name = "{name}"', f'version = "{version}+not.proved"']
     lines.append('edition = "2024"')
     lines += ["[lints]", "workspace = true"]
     if name == "chanv":
         lines += ["[[bin]]", 'name = "chanv-rustc"', 'path = "src/main.rs"']
+        needs = sorted({*needs, *LIBRARY})
+    else:
+        lines += ["[lib]", "doctest = false"]
     if "staticlib" in words:
-        lines += ["[lib]", 'crate-type = ["staticlib"]']
+        lines += ['crate-type = ["staticlib"]']
     lines += ["[dependencies]", 'kit = { path = "../kit" }']
     for need in needs:
         where = f"../{need}" if need in own else f"../shims/{need}"
@@ -328,6 +337,7 @@ def main():
     write_source(given.to, source)
     for path in [HERE / "Cargo.toml", *HERE.glob("kit/**/*.*"), *HERE.glob("shims/**/*.*")]:
         write(given.to / path.relative_to(HERE), path.read_text())
+    write(given.to / "chanv/src/lib.rs", (HERE / "library/lib.rs").read_text())
     rows = [*crates()]
     own = {name for name, _, _ in rows}
     for name, words, needs in rows:

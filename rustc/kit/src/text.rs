@@ -85,6 +85,12 @@ impl fmt::Debug for String {
     }
 }
 
+impl From<String> for ::std::string::String {
+    fn from(text: String) -> Self {
+        text.0
+    }
+}
+
 /// Joins the texts of an array.
 pub trait Concat {
     fn concat(self, alloc: Global) -> Result<String, AllocError>;

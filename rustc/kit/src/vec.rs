@@ -131,6 +131,12 @@ impl<T> IntoIterator for Vec<T> {
     }
 }
 
+impl<T> From<Vec<T>> for ::std::vec::Vec<T> {
+    fn from(items: Vec<T>) -> Self {
+        items.0
+    }
+}
+
 impl io::Write for Vec<u8> {
     fn write(&mut self, bytes: &[u8]) -> io::Result<usize> {
         match self.extend_from_slice(bytes) {
