@@ -199,19 +199,15 @@ def crates():
 
 
 def manifest(name, words, needs, own):
-    """The Cargo.toml of a crate. The program is named so that it isn't taken for the proved one, and
-    its package has the library for Rust, whose examples alone are Rust's."""
+    """The Cargo.toml of a crate. The program is named so that it isn't taken for the proved one."""
     [version] = re.findall(r"(?m)^VERSION = (.*)$", (ROOT / "Makefile").read_text())
     lines = ["[package]", f'name = "{name}"', f'version = "{version}+not.proved"']
     lines.append('edition = "2024"')
     lines += ["[lints]", "workspace = true"]
     if name == "chanv":
         lines += ["[[bin]]", 'name = "chanv-rustc"', 'path = "src/main.rs"']
-        needs = sorted({*needs, *LIBRARY})
-    else:
-        lines += ["[lib]", "doctest = false"]
     if "staticlib" in words:
-        lines += ['crate-type = ["staticlib"]']
+        lines += ["[lib]", 'crate-type = ["staticlib"]']
     lines += ["[dependencies]", 'kit = { path = "../kit" }']
     for need in needs:
         where = f"../{need}" if need in own else f"../shims/{need}"
@@ -314,6 +310,9 @@ def write_source(folder, crates):
 
 
 def write_crate(folder, name, words, needs, own):
+    if name == "chanv":
+        write(folder / "chanv/src/lib.rs", (HERE / "library/lib.rs").read_text())
+        needs = sorted({*needs, *LIBRARY})
     write(folder / name / "Cargo.toml", manifest(name, words, needs, own))
     for source in (ROOT / "crates" / name / "src").rglob("*.rt"):
         text = strip(source.read_text())
@@ -337,7 +336,6 @@ def main():
     write_source(given.to, source)
     for path in [HERE / "Cargo.toml", *HERE.glob("kit/**/*.*"), *HERE.glob("shims/**/*.*")]:
         write(given.to / path.relative_to(HERE), path.read_text())
-    write(given.to / "chanv/src/lib.rs", (HERE / "library/lib.rs").read_text())
     rows = [*crates()]
     own = {name for name, _, _ in rows}
     for name, words, needs in rows:

@@ -6,16 +6,22 @@ The program that it installs has the verdicts of the examples. Each crate in the
 checksums of Debian's crate. The archive has a lock and its pages, nothing in it tells when or by
 whom it was packed, and by itself `make dist` puts it in out/. Without cargo or the crates the test
 is left out, by its name.
+
+The package also has a library for Rust. The example of its first page runs. Programs of another
+package use it: rust/judge.rs answers about the example decks as the program does, rust/ask.rs gets
+each fault and each refusal, as rust/ask.out has them, and whoever forgets a line that is in MISTAKES
+hears of it from the compiler.
 """
 
+import re
 import shutil
 import tarfile
 import tempfile
 from pathlib import Path
 
-from building import ROOT, must_succeed, version
+from building import HERE, ROOT, must_succeed, version
 from cargo import missing, stripping
-from examples import EXAMPLES, decks_of, verdicts_of
+from examples import EXAMPLES, FOLDERS, decks_of, verdicts_of
 from running import Ran, run, text_of
 
 NAME, ARCHIVE = f"chanv-{version()}-not-proved", "packed.tar.gz"
@@ -27,12 +33,62 @@ PACKED = ["Cargo.lock", "Cargo.toml", "README.md", "CHANGELOG.md", ".cargo/confi
 # mode, time and owner of each file there
 ABOUT = (0o644, 0, 0, 0, "", "")
 
+# a package that uses the library
+OUTSIDE = f"""[package]
+name = "outside"
+version = "0.0.0"
+edition = "2024"
+[dependencies]
+chanv = {{ path = "../{NAME}/chanv" }}
+"""
+# the lines of `needs` about a program for which some job will do, and the first line about another
+OF_NEEDS = re.compile(r".*\.deck:|(?:mask|extent|fetch|store|keep|no) .*")
+
+ASKING = """#![deny(unused_must_use, unused_variables)]
+#![allow(dead_code, unused_imports)]
+use chanv::{{Area, Device, Job, Program, Refusal, Row, Source}};
+fn ask(job: &Job, program: &Program, table: &mut Vec<Row>, area: Area) -> Result<(), Refusal> {{
+    let _ = (job, program, &table, area);
+    {}
+    Ok(())
+}}
+fn main() {{}}
+"""
+RIGHT = [
+    "if chanv::verify(job)? == chanv::Verdict::Yes { println!(); }",
+    "println!(\"{}\", chanv::why(job)?);",
+    "table.push(chanv::may_start(program, job, table)?);",
+    "chanv::may_write(table, area)?;",
+    "table.push(Row::writing(table, area)?);",
+    "chanv::needs(&Source::new(&vec![0; 8], 0, Device::D2311))?;",
+]
+# what a caller may forget or get wrong, and what the compiler says
+MISTAKES = [
+    ("chanv::verify(job);", "unused `Result` that must be used"),
+    ("chanv::verify(job)?;", "unused `Verdict` that must be used"),
+    ("chanv::why(job)?;", "unused `Explanation` that must be used"),
+    ("chanv::may_write(table, area);", "unused `Result` that must be used"),
+    ("chanv::may_start(program, job, table)?;", "unused `Row` that must be used"),
+    ("Row::writing(table, area)?;", "unused `Row` that must be used"),
+    ("let row = chanv::may_start(program, job, table)?;", "unused variable: `row`"),
+    ("let _ = Job { source: job.source, mask: 0, extents: &[], fetch: &[] };", "missing field"),
+    ("chanv::take_in(&job.source, &[area])?;", "takes 3 arguments but 2"),
+    ("let _ = Program::default();", "no function or associated item named `default`"),
+    ("let _ = Program(Default::default());", "private field"),
+    ("table.push(Row(program.clone()));", "private field"),
+    (
+        "let mut bytes = vec![0; 8]; let source = Source::new(&bytes, 0, Device::D2311);"
+        " bytes[0] = 1; chanv::needs(&source)?;",
+        "cannot borrow `bytes` as mutable",
+    ),
+]
+
 
 def tools_in(folder):
     """A path with a compiler of Rust that needs no HOME, and a linker."""
     folder.mkdir()
     compiler = Path(run("rustc", "--print", "sysroot").output.strip()) / "bin"
-    for tool in ("cargo", "rustc"):
+    for tool in ("cargo", "rustc", "rustdoc"):
         found = shutil.which(tool)
         # rustup's own tools look into HOME
         needs_home = run("env", "-i", f"HOME={folder}", found, "--version").status != 0
@@ -42,16 +98,14 @@ def tools_in(folder):
     return folder
 
 
-def install(room):
-    """Unpacks what `make dist` packs, and has cargo install it in an empty HOME."""
+def unpack(room):
+    """Unpacks what `make dist` packs. Gives the words that go before a command which is to find
+    nothing but these tools, and an empty HOME."""
     must_succeed("make", "-C", ROOT, "dist", f"DIST={room / ARCHIVE}", timeout=None)
     must_succeed("tar", "-xzf", room / ARCHIVE, "-C", room)
     home, path = room / "home", tools_in(room / "tools")
     home.mkdir()
-    alone = ["env", "-i", f"HOME={home}", f"PATH={path}"]
-    words = ["cargo", "install", "--offline", "--quiet", "--path", "chanv"]
-    ran = run(*alone, *words, cwd=room / NAME, timeout=None)
-    return ran, home / ".cargo/bin/chanv-rustc"
+    return ["env", "-i", f"HOME={home}", f"PATH={path}"]
 
 
 def check_sums(checks, folder, debian):
@@ -78,21 +132,78 @@ def check_archive(checks, archive):
     checks.expect_that("where make dist packs it", wanted in ran.output, ran)
 
 
+def check_page(checks, folder, alone):
+    """The first page says that nothing is proved, and its example runs."""
+    first = text_of(folder / "chanv/src/lib.rs").partition("\n")[0]
+    checks.expect_that("the first line says so", "not proved" in first, first)
+    words = ["cargo", "test", "--doc", "--offline", "--quiet"]
+    ran = run(*alone, *words, cwd=folder, timeout=None)
+    passed = ran.status == 0 and "test result: ok. 1 passed; 0 failed" in ran.output
+    checks.expect_that("the example of the first page", passed, ran)
+
+
+def check_outside(checks, room, alone, program):
+    """Programs of another package, which have only the archive."""
+    sources = room / "outside/src/bin"
+    sources.mkdir(parents=True)
+    (room / "outside/Cargo.toml").write_text(OUTSIDE)
+    made = room / NAME / "target"
+    words = [*alone, "cargo", "build", "--offline", "--quiet", "--target-dir", made]
+    words += ["--config", room / NAME / ".cargo/config.toml", "--bin"]
+
+    def build(name, text):
+        (sources / f"{name}.rs").write_text(text)
+        return run(*words, name, cwd=room / "outside", timeout=None)
+
+    for name in ("judge", "ask"):
+        ran = build(name, text_of(HERE / f"rust/{name}.rs"))
+        checks.expect(f"{name}.rs compiles", Ran(0), ran)
+    check_answers(checks, made / "debug/judge", program)
+    seen = run(made / "debug/ask")
+    wanted = text_of(HERE / "rust/ask.out").splitlines()
+    checks.expect("ask.rs", (0, "", len(wanted)), (seen.status, seen.error, seen.output.count("\n")))
+    for line, expected in zip(seen.output.splitlines(), wanted):
+        checks.expect(f"ask.rs, {expected.partition(': ')[0]}", expected, line)
+    checks.expect("right calls", Ran(0), build("right", ASKING.format("\n".join(RIGHT))))
+    for number, (line, said) in enumerate(MISTAKES):
+        ran = build(f"mistake_{number}", ASKING.format(line))
+        errors = re.findall(r"(?m)^error(?:\[E\d+\])?: (.*)$", ran.error)
+        checks.expect_that(line, errors and said in errors[0], errors)
+
+
+def check_answers(checks, judge, program):
+    """The library answers about each deck as the program does."""
+    decks = [deck for folder in FOLDERS for deck in decks_of(folder)]
+    for command in ("verify", "why", "needs"):
+        wanted = run(program, command, *decks).output.splitlines()
+        if command == "needs":
+            wanted = [line for line in wanted if OF_NEEDS.fullmatch(line)]
+        seen = run(judge, command, *decks)
+        checks.expect_that(f"{command} answers about each deck", len(wanted) >= len(decks), wanted)
+        checks.expect(f"{command} by the library", ("", wanted), (seen.error, seen.output.splitlines()))
+
+
 def check(checks, _built):
     if why := missing():
         checks.skip("all of it", why)
         return
     with tempfile.TemporaryDirectory() as room:
-        ran, program = install(Path(room))
-        check_archive(checks, Path(room) / ARCHIVE)
+        room = Path(room)
+        alone = unpack(room)
+        check_archive(checks, room / ARCHIVE)
+        words = ["cargo", "install", "--offline", "--quiet", "--path", "chanv"]
+        ran = run(*alone, *words, cwd=room / NAME, timeout=None)
+        program = room / "home/.cargo/bin/chanv-rustc"
         checks.expect("cargo install", 0, ran.status)
         if ran.status != 0:
             checks.fail("what cargo says", *ran.error.splitlines())
             return
-        check_sums(checks, Path(room) / NAME, stripping().DEBIAN)
+        check_sums(checks, room / NAME, stripping().DEBIAN)
         said = f"chanv {version()} (not proved)\n"
         checks.expect("its version", Ran(0, said), run(program, "--version"))
         decks = decks_of(EXAMPLES)
         wanted = [f"{deck}: {verdict}" for deck, verdict in sorted(verdicts_of(EXAMPLES).items())]
         ran = run(program, "verify", *[deck.name for deck in decks], cwd=EXAMPLES)
         checks.expect("the verdicts of the examples", wanted, ran.output.splitlines())
+        check_page(checks, room / NAME, alone)
+        check_outside(checks, room, alone, program)

@@ -40,21 +40,22 @@
 //! ```
 //!
 //! The pages of chanv say what the answers mean: VERDICT the rules, THEOREM what a *yes* promises,
-//! SUPERVISOR the duties of a caller with several programs in flight. They are proved of the calls
-//! of the proved library, and only tested here.
+//! SUPERVISOR the duties of a caller with several programs in flight. What they call proved is
+//! proved of the library for C that the kit makes, and only tested here.
 //!
 //! | if you forget | you get |
 //! |---|---|
 //! | a field of a job | an error of the compiler |
 //! | to look at an answer, or to keep the row of a start | a warning of the compiler |
-//! | which storage the user owns | a refusal: no areas means that he owns nothing |
-//! | to decide about programs that never end | a refusal, as long as [`Allowed`] allows nothing |
+//! | which storage the user owns | a refusal: no areas means that the user owns nothing |
+//! | to decide about programs that never end | a refusal: [`Allowed`] allows nothing by itself |
 //! | to take a row out at the program's end | refusals of later starts and writes |
-//! | the lock, the prefix, or the question before a write | nothing: no library can see it |
+//! | that a no is an answer too: `verify(..).is_ok()` | a start of what was refused |
+//! | the lock, the prefix, the question before a write | no answer that holds: SUPERVISOR's duties |
 //!
-//! Nothing may write storage while a call runs: Rust's rule for a slice that is borrowed. If
-//! channels store meanwhile, use the library for C, whose `chanv_take_in` and `chanv_check_start`
-//! allow it.
+//! Nothing may write storage while a call runs: that is Rust's rule for a slice that is borrowed. If
+//! channels store during a call, use the library for C: its `chanv_take_in` and `chanv_check_start`
+//! allow that.
 
 #![deny(missing_debug_implementations, missing_docs)]
 
@@ -177,7 +178,7 @@ pub struct Needs {
     pub store: Vec<Area>,
     /// The bytes that must not change: CCWs, seek arguments and mask bytes.
     pub keep: Vec<Area>,
-    /// The first place from which on it can't end by itself.
+    /// The first place from which on it never ends by itself.
     pub hangs: Option<Place>,
     /// The first CCW that asks for a program-controlled interruption.
     pub interrupts: Option<u32>,
@@ -209,8 +210,8 @@ pub enum Refusal {
     /// The program keeps the byte at this address, the least that its user doesn't own.
     #[error("it keeps the byte at {0:06X}, which its user doesn't own")]
     KeepsOutside(u32),
-    /// From this place on the program can't end by itself.
-    #[error("from {:06X} on it can't end by itself", .0.address)]
+    /// From this place on the program never ends by itself.
+    #[error("from {:06X} on it never ends by itself", .0.address)]
     MayHang(Place),
     /// The CCW at this address asks for a program-controlled interruption.
     #[error("the CCW at {0:06X} asks for an interruption")]
@@ -218,8 +219,8 @@ pub enum Refusal {
     /// At this address is a No Operation or Recalibrate with chain data on.
     #[error("at {0:06X} it ends a command with chain data on")]
     EndsChaining(u32),
-    /// The program may not start.
-    #[error("it may not start: {0:X?}")]
+    /// The program may not start, or the bytes can't stay.
+    #[error("not under this job or beside this table: {0:X?}")]
     Start(StartRefusal),
     /// The row of this index, the first that keeps a byte of the area, keeps the byte at this
     /// address, the least.
@@ -359,7 +360,10 @@ impl<'a> Source<'a> {
 
 impl Job<'_> {
     /// Asks about the job as the sources have it, or says what is wrong with it.
-    fn ask<T>(&self, ask: impl FnOnce(&chan_walk::Job) -> Result<T, WalkError>) -> Result<T, Error> {
+    fn ask<T>(
+        &self,
+        ask: impl FnOnce(&chan_walk::Job) -> Result<T, WalkError>,
+    ) -> Result<T, Error> {
         let Source { storage, start, device, limit } = self.source;
         let extents = chan_needs::pairs_of(Global, self.extents).map_err(no_memory)?;
         let job = chan_walk::Job {
@@ -406,20 +410,27 @@ impl Program {
 }
 
 impl Row {
-    /// The row of a write that lasts, such as another device's input, if it may begin: as long as
-    /// the row is in the table, no program that keeps a byte of the area may start.
+    /// The row of a write that lasts, such as another device's input, if nothing in flight keeps a
+    /// byte of the area: as long as the row is in the table, no program that does may start.
     pub fn writing(in_flight: &[Row], area: Area) -> Result<Row, Refusal> {
         may_write(in_flight, area)?;
-        Ok(Row::standing_for(Needs { store: vec![area], ..Needs::default() }))
+        Ok(Row::of(Needs { store: vec![area], ..Needs::default() }))
     }
 
-    /// The row of bytes that must stay, such as the prefixes: as long as the row is in the table, no
-    /// program that may store over one of them may start. It is the first row of the table.
-    pub fn keeping(area: Area) -> Row {
-        Row::standing_for(Needs { keep: vec![area], ..Needs::default() })
+    /// The row of bytes that must stay, such as the prefixes, if nothing in flight may store over
+    /// them: as long as the row is in the table, no program that may store over them may start.
+    pub fn keeping(in_flight: &[Row], area: Area) -> Result<Row, Refusal> {
+        let row = Row::of(Needs { keep: vec![area], ..Needs::default() });
+        let needs = row.0.remembered().needs;
+        for (at, Row(program)) in in_flight.iter().enumerate() {
+            if let Some(conflict) = needs.conflict(&program.remembered().needs) {
+                return Err(Refusal::Start(StartRefusal::Conflict(at, conflict)));
+            }
+        }
+        Ok(row)
     }
 
-    fn standing_for(needs: Needs) -> Row {
+    fn of(needs: Needs) -> Row {
         Row(Program(Arc::new(Taken { needs, ..Taken::default() })))
     }
 }
