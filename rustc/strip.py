@@ -311,7 +311,8 @@ def write_source(folder, crates):
 
 def write_crate(folder, name, words, needs, own):
     if name == "chanv":
-        write(folder / "chanv/src/lib.rs", (HERE / "library/lib.rs").read_text())
+        for source in HERE.glob("library/*.rs"):
+            write(folder / "chanv/src" / source.name, source.read_text())
         needs = sorted({*needs, *LIBRARY})
     write(folder / name / "Cargo.toml", manifest(name, words, needs, own))
     for source in (ROOT / "crates" / name / "src").rglob("*.rt"):

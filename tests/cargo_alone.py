@@ -1,4 +1,4 @@
-"""What `make dist` packs is built by cargo alone, without a network, and judges the examples.
+"""What `make dist` packs is built by cargo alone, judges the examples, and has a library for Rust.
 
 The archive is unpacked in a new folder. There `cargo install --offline` finds a compiler, a linker
 and nothing else on its path, so no Python, no kit and no crates of Debian, and its HOME is empty.
