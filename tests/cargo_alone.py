@@ -9,8 +9,8 @@ is left out, by its name.
 
 The package also has a library for Rust. The example of its first page runs. Programs of another
 package use it: rust/judge.rs answers about the example decks as the program does, rust/ask.rs gets
-each fault and each refusal, as rust/ask.out has them, and whoever forgets a line that is in MISTAKES
-hears of it from the compiler.
+each fault and each refusal, as rust/ask.out has them, rust/memory.rs refuses each growth of memory
+in turn, and the compiler tells of each line in MISTAKES.
 """
 
 import re
@@ -54,6 +54,10 @@ fn ask(job: &Job, program: &Program, table: &mut Vec<Row>, area: Area) -> Result
 }}
 fn main() {{}}
 """
+# what refused memory comes to; the numbers are the compiler's
+REFUSED = [f"{it}: an answer after N refusals" for it in "verify why needs find may_start".split()]
+REFUSED.append("may_write: an answer after 0 refusals")
+
 RIGHT = [
     "if chanv::verify(job)? == chanv::Verdict::Yes { println!(); }",
     "println!(\"{}\", chanv::why(job)?);",
@@ -155,20 +159,27 @@ def check_outside(checks, room, alone, program):
         (sources / f"{name}.rs").write_text(text)
         return run(*words, name, cwd=room / "outside", timeout=None)
 
-    for name in ("judge", "ask"):
+    for name in ("judge", "ask", "memory"):
         ran = build(name, text_of(HERE / f"rust/{name}.rs"))
         checks.expect(f"{name}.rs compiles", Ran(0), ran)
     check_answers(checks, made / "debug/judge", program)
-    seen = run(made / "debug/ask")
-    wanted = text_of(HERE / "rust/ask.out").splitlines()
-    checks.expect("ask.rs", (0, "", len(wanted)), (seen.status, seen.error, seen.output.count("\n")))
-    for line, expected in zip(seen.output.splitlines(), wanted):
-        checks.expect(f"ask.rs, {expected.partition(': ')[0]}", expected, line)
+    check_lines(checks, run(made / "debug/ask"))
+    ran = run(made / "debug/memory")
+    checks.expect("memory.rs", REFUSED, re.sub(r"[1-9]\d*", "N", ran.output).splitlines())
     checks.expect("right calls", Ran(0), build("right", ASKING.format("\n".join(RIGHT))))
     for number, (line, said) in enumerate(MISTAKES):
         ran = build(f"mistake_{number}", ASKING.format(line))
         errors = re.findall(r"(?m)^error(?:\[E\d+\])?: (.*)$", ran.error)
         checks.expect_that(line, errors and said in errors[0], errors)
+
+
+def check_lines(checks, ran):
+    """rust/ask.rs writes the lines of rust/ask.out."""
+    wanted = text_of(HERE / "rust/ask.out").replace("VERSION", version()).splitlines()
+    seen = ran.output.splitlines()
+    checks.expect("ask.rs", (0, "", len(wanted)), (ran.status, ran.error, len(seen)))
+    for expected, line in zip(wanted, seen):
+        checks.expect(f"ask.rs, {expected.partition(': ')[0]}", expected, line)
 
 
 def check_answers(checks, judge, program):
@@ -178,9 +189,10 @@ def check_answers(checks, judge, program):
         wanted = run(program, command, *decks).output.splitlines()
         if command == "needs":
             wanted = [line for line in wanted if OF_NEEDS.fullmatch(line)]
-        seen = run(judge, command, *decks)
+        ran = run(judge, command, *decks)
         checks.expect_that(f"{command} answers about each deck", len(wanted) >= len(decks), wanted)
-        checks.expect(f"{command} by the library", ("", wanted), (seen.error, seen.output.splitlines()))
+        seen = ran.output.splitlines()
+        checks.expect(f"{command} by the library", (0, "", wanted), (ran.status, ran.error, seen))
 
 
 def check(checks, _built):

@@ -55,7 +55,8 @@
 //!
 //! Nothing may write storage while a call runs: that is Rust's rule for a slice that is borrowed. If
 //! channels store during a call, use the library for C: its `chanv_take_in` and `chanv_check_start`
-//! allow that.
+//! allow that. Memory that a call doesn't get is an [`Error::Memory`], except for the few bytes in
+//! which a [`Program`] or a [`Row`] is shared: without these Rust ends the process.
 
 #![deny(missing_debug_implementations, missing_docs)]
 
@@ -251,12 +252,14 @@ impl Job<'_> {
         ask: impl FnOnce(&chan_walk::Job) -> Result<T, WalkError>,
     ) -> Result<T, Error> {
         let Source { storage, start, device, limit } = self.source;
+        let storage = storage_of(storage)?;
+        let mask = FileMask::new(self.mask).ok_or(Error::NotAMask(self.mask))?;
         let extents = chan_needs::pairs_of(Global, self.extents).map_err(no_memory)?;
         let job = chan_walk::Job {
-            storage: storage_of(storage)?,
+            storage,
             start,
             device,
-            mask: FileMask::new(self.mask).ok_or(Error::NotAMask(self.mask))?,
+            mask,
             extents: &Extents::new(Global, &extents).map_err(|error| match error {
                 ExtentError::Empty => Error::NoExtent,
                 ExtentError::Backwards(at) => Error::ExtentBackwards(at),

@@ -1,7 +1,7 @@
 //! Each fault of a job, each refusal and each kind of row of the library for Rust, a line for each.
 
 use chanv::{Allowed, Area, Conflict, Device, Entry, Evidence, Extent, FileMask, GivenBytes, Job};
-use chanv::{Outside, Place, Reason, Row, Source, StartRefusal};
+use chanv::{Outside, Place, Program, Reason, Refusal, Row, Source, StartRefusal};
 use chanv::{find, may_start, may_write, needs, take_in, verify, why};
 use std::error::Error;
 use std::fmt::Debug;
@@ -28,6 +28,9 @@ fn tell(name: &str, answer: Result<impl Debug, impl Error>) {
 /// Whether a type that the library takes from another crate can be printed; else this doesn't compile.
 fn can_be_printed<T: Debug>() {}
 
+/// Whether threads can share a type.
+fn can_be_shared<T: Send + Sync>() {}
+
 /// What it comes to, without the answer, whose Debug form is long.
 fn outcome<E: Error>(answer: Result<impl Debug, E>) -> Result<(), E> {
     answer.map(|_| ())
@@ -41,10 +44,16 @@ fn main() -> Result<(), Box<dyn Error>> {
     println!("version: {}", chanv::VERSION);
     can_be_printed::<(Area, Conflict, Device, Entry, Evidence, Extent)>();
     can_be_printed::<(FileMask, GivenBytes, Outside, Place, Reason, StartRefusal)>();
+    can_be_shared::<(Job, Program, Row, Refusal)>();
 
     tell("yes", verify(&job));
     tell("no", verify(&Job { store: &[], ..job }));
     tell("why", why(&Job { store: &[], ..job }).map(|why| (why.path, why.evidence)));
+    let changes = storage(&[0x0700_0900_4000_0006, 0x0600_0900_2000_0010]);
+    let changing = Source { storage: &changes, ..source };
+    let inside = [Extent { first: 0, last: 0 }];
+    let job_of_change = Job { source: changing, extents: &inside, ..job };
+    tell("second path", why(&job_of_change).map(|why| (why.verdict, why.second_path)));
     tell("starts", find(&bytes, Device::D2314));
     tell("no programs", find(&[], Device::D2311));
 
@@ -122,11 +131,14 @@ fn main() -> Result<(), Box<dyn Error>> {
     for (name, job) in jobs {
         tell(&format!("start, {name}"), outcome(may_start(&program, &job, &[])));
     }
+    let on_2311 = Source { device: Device::D2311, ..source };
+    let smaller = take_in(&on_2311, &ALL, NOTHING)?;
+    tell("start on a 2311", outcome(may_start(&smaller, &Job { source: on_2311, ..job }, &[])));
+    tell("start on a 2314 instead", outcome(may_start(&smaller, &job, &[])));
     let seeks = storage(&[0x0700_0900_4000_0006, 0x0500_0A00_0000_0050]);
     let source = Source { storage: &seeks, ..source };
     let seeking = take_in(&source, &ALL, NOTHING)?;
     tell("start, cylinder", outcome(may_start(&seeking, &Job { source, ..job }, &[])));
-    let inside = [Extent { first: 0, last: 0 }];
     let job_of_seek = Job { source, extents: &inside, ..job };
     tell("start, mask", outcome(may_start(&seeking, &Job { mask: 0x58, ..job_of_seek }, &[])));
     tell("start, seek", outcome(may_start(&seeking, &job_of_seek, &[])));
