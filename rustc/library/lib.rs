@@ -1,4 +1,4 @@
-//! Whether an IBM System/360 channel program is safe to start. Plain rustc made it: **not proved**.
+//! Tells whether a System/360 channel program is safe to start; built by rustc, **not proved**.
 //!
 //! ```
 //! use chanv::{Allowed, Area, Device, Extent, Job, Refusal, Source, Verdict};
@@ -39,9 +39,9 @@
 //! }
 //! ```
 //!
-//! The pages of chanv say what the answers mean: VERDICT the rules, THEOREM what a *yes* promises,
-//! SUPERVISOR the duties of a caller with several programs in flight. What they call proved is
-//! proved of the library for C that the kit makes, and only tested here.
+//! The pages of chanv say what the answers mean: VERDICT has the rules, THEOREM says what a *yes*
+//! promises, and SUPERVISOR lists the duties of a caller with several programs in flight. Their
+//! proofs are about the library for C that the kit builds. This library is only tested.
 //!
 //! | if you forget | you get |
 //! |---|---|
@@ -51,12 +51,12 @@
 //! | to decide about programs that never end | a refusal: [`Allowed`] allows nothing by itself |
 //! | to take a row out at the program's end | refusals of later starts and writes |
 //! | that a no is an answer too: `verify(..).is_ok()` | a start of what was refused |
-//! | the lock, the prefix, the question before a write | no answer that holds: SUPERVISOR's duties |
+//! | the lock, the prefix, or to ask before a write | answers that don't hold (SUPERVISOR) |
 //!
-//! Nothing may write storage while a call runs: that is Rust's rule for a slice that is borrowed. If
+//! Nothing may write storage while a call runs: Rust's rule for a slice that is borrowed. If
 //! channels store during a call, use the library for C: its `chanv_take_in` and `chanv_check_start`
-//! allow that. Memory that a call doesn't get is an [`Error::Memory`], except for the few bytes in
-//! which a [`Program`] or a [`Row`] is shared: without these Rust ends the process.
+//! allow that. If memory is refused, a call returns [`Error::Memory`]. Only for the few bytes that
+//! share a [`Program`] or a [`Row`] does Rust end the process.
 
 #![deny(missing_debug_implementations, missing_docs)]
 
@@ -182,7 +182,7 @@ pub struct Needs {
     pub hangs: Option<Place>,
     /// The first CCW that asks for a program-controlled interruption.
     pub interrupts: Option<u32>,
-    /// The first No Operation or Recalibrate with chain data on. The program ends there, but on some
+    /// The first No Operation or Recalibrate with chain data on. The program ends there; on some
     /// channels it goes on.
     pub ends_chaining: Option<u32>,
 }

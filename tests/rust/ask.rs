@@ -25,7 +25,7 @@ fn tell(name: &str, answer: Result<impl Debug, impl Error>) {
     }
 }
 
-/// Whether a type that the library takes from another crate can be printed; else this doesn't compile.
+/// Whether a type can be printed, also of another crate. If it can't, this doesn't compile.
 fn can_be_printed<T: Debug>() {}
 
 /// Whether threads can share a type.

@@ -1,4 +1,4 @@
-//! Answers about decks as `chanv verify`, `chanv why` and `chanv needs` do, by the library for Rust.
+//! Answers about decks by the library for Rust, as `chanv verify`, `why` and `needs` do.
 
 use chanv::{Area, Device, Extent, Job, Needs, Refusal, Source};
 use std::error::Error;
