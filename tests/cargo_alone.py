@@ -33,14 +33,16 @@ PACKED = ["Cargo.lock", "Cargo.toml", "README.md", "CHANGELOG.md", ".cargo/confi
 # mode, time and owner of each file there
 ABOUT = (0o644, 0, 0, 0, "", "")
 
-# a package that uses the library
+# a package that uses the library, by the lines of rustc/README.md
+BY_PATH = f"""[dependencies]
+    chanv = {{ path = "../{NAME}/chanv" }}
+"""
 OUTSIDE = f"""[package]
 name = "outside"
 version = "0.0.0"
 edition = "2024"
-[dependencies]
-chanv = {{ path = "../{NAME}/chanv" }}
-"""
+{BY_PATH}"""
+BUILD = ["cargo", "build", "--offline", "--config", f"../{NAME}/.cargo/config.toml"]
 # the lines of `needs` about a program for which some job will do, and the first line about another
 OF_NEEDS = re.compile(r".*\.deck:|(?:mask|extent|fetch|store|keep|no) .*")
 
@@ -151,9 +153,11 @@ def check_outside(checks, room, alone, program):
     sources = room / "outside/src/bin"
     sources.mkdir(parents=True)
     (room / "outside/Cargo.toml").write_text(OUTSIDE)
+    page = text_of(ROOT / "rustc/README.md").replace("VERSION", version())
+    for lines in (BY_PATH, " ".join(BUILD)):
+        checks.expect_that(f"rustc/README.md has {lines}", f"    {lines}" in page, page)
     made = room / NAME / "target"
-    words = [*alone, "cargo", "build", "--offline", "--quiet", "--target-dir", made]
-    words += ["--config", room / NAME / ".cargo/config.toml", "--bin"]
+    words = [*alone, *BUILD, "--quiet", "--target-dir", made, "--bin"]
 
     def build(name, text):
         (sources / f"{name}.rs").write_text(text)
