@@ -61,7 +61,7 @@ REFUSED = [f"{it}: an answer after N refusals" for it in "verify why needs find 
 REFUSED.append("may_write: an answer after 0 refusals")
 
 RIGHT = [
-    "if chanv::verify(job)? == chanv::Verdict::Yes { println!(); }",
+    "if chanv::verify(job).is_ok() { println!(); }",
     "println!(\"{}\", chanv::why(job)?);",
     "table.push(chanv::may_start(program, job, table)?);",
     "chanv::may_write(table, area)?;",
@@ -71,7 +71,6 @@ RIGHT = [
 # what a caller may forget or get wrong, and what the compiler says
 MISTAKES = [
     ("chanv::verify(job);", "unused `Result` that must be used"),
-    ("chanv::verify(job)?;", "unused `Verdict` that must be used"),
     ("chanv::why(job)?;", "unused `Explanation` that must be used"),
     ("chanv::may_write(table, area);", "unused `Result` that must be used"),
     ("chanv::may_start(program, job, table)?;", "unused `Row` that must be used"),

@@ -8,6 +8,7 @@ a call is refused in turn. The test `python` asks about all decks, `nulls` hands
 empty list.
 """
 
+import platform
 import re
 import tempfile
 from pathlib import Path
@@ -48,6 +49,19 @@ def check_example(checks, folder):
     checks.expect("the C of EMBEDDING", [text_of(EXAMPLES / "c/ask.c")], shown)
     ran = run(folder / "ask")
     checks.expect("the example's status", (0, ""), (ran.status, ran.error))
+
+
+def check_bare(checks, library, folder):
+    """A program without a C library links, and judges one program with a yes and one with a no."""
+    if not is_proved(library) or platform.machine() != "x86_64":
+        checks.skip("without a C library", "the archive is Rust's, or the machine is another")
+        return
+    [line] = re.findall(r"(?m)^    cc (.*) -lchanv$", text_of(ROOT / "docs/EMBEDDING.md"))
+    words = line.replace(" -o bare bare.c", "").split()
+    where = [f"-I{library}", "-o", folder / "bare", EXAMPLES / "c/bare.c", library / "libchanv.a"]
+    ran = run(*c_compiler(), "-std=c11", "-Wall", "-Wextra", "-Werror", *words, *where)
+    checks.expect("the build without a C library", Ran(0), ran)
+    checks.expect("what it ends with", Ran(0), run(folder / "bare"))
 
 
 def check_loop(checks, library, folder):
@@ -259,6 +273,7 @@ def check(checks, built):
             more = SANITIZED if source.stem in LINED else []
             compile_with(library, source, folder / source.stem, *more)
         check_example(checks, folder)
+        check_bare(checks, library, folder)
         check_loop(checks, library, folder)
         check_edges(checks, folder)
         check_c_file(checks, library, folder)

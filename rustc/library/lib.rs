@@ -1,7 +1,7 @@
 //! Tells whether a System/360 channel program is safe to start; built by rustc, **not proved**.
 //!
 //! ```
-//! use chanv::{Allowed, Area, Device, Extent, Job, Refusal, Source, Verdict};
+//! use chanv::{Allowed, Area, Device, Extent, Job, Refusal, Source};
 //!
 //! fn main() -> Result<(), Refusal> {
 //!     let mut storage = vec![0; 0x1000];
@@ -21,7 +21,7 @@
 //!         fetch: &[Area { start: 0x900, len: 0x10 }],
 //!         store: &[Area { start: 0xA00, len: 0x100 }],
 //!     };
-//!     assert_eq!(chanv::verify(&job)?, Verdict::Yes);
+//!     chanv::verify(&job)?; // every run is safe; a no is an error
 //!
 //!     let why = chanv::why(&Job { store: &[], ..job })?;
 //!     assert_eq!(why.verdict.to_string(), "no 000810 store-not-lent");
@@ -50,7 +50,6 @@
 //! | which storage the user owns | a refusal: no areas means that the user owns nothing |
 //! | to decide about programs that never end | a refusal: [`Allowed`] allows nothing by itself |
 //! | to take a row out at the program's end | refusals of later starts and writes |
-//! | that a no is an answer too: `verify(..).is_ok()` | a start of what was refused |
 //! | the lock, the prefix, or to ask before a write | answers that don't hold (SUPERVISOR) |
 //!
 //! Nothing may write storage while a call runs: Rust's rule for a slice that is borrowed. If
@@ -134,8 +133,7 @@ pub enum Error {
     Memory,
 }
 
-/// Whether a program may run.
-#[must_use = "only a program with a yes may start"]
+/// Whether a program may run, with what shows it.
 #[derive(Clone, Copy, PartialEq, Eq, Debug)]
 pub enum Verdict {
     /// Every run is safe.
@@ -187,9 +185,12 @@ pub struct Needs {
     pub ends_chaining: Option<u32>,
 }
 
-/// Whether a program may run.
-pub fn verify(job: &Job) -> Result<Verdict, Error> {
-    job.ask(|job| Ok(chan_walk::verify(Global, job)?.into()))
+/// Whether a program may run: every run is safe, or [`Refusal::No`].
+pub fn verify(job: &Job) -> Result<(), Refusal> {
+    match job.ask(|job| chan_walk::verify(Global, job))? {
+        chan_walk::Verdict::Yes => Ok(()),
+        chan_walk::Verdict::No { address, reason } => Err(Refusal::No(address, reason)),
+    }
 }
 
 /// Why a program may not run.

@@ -18,12 +18,15 @@ pub struct Allowed {
     pub ends_chaining: bool,
 }
 
-/// Why a program isn't taken in or may not start, or others may not write.
+/// Why a program may not run, isn't taken in or may not start, or others may not write.
 #[derive(Clone, Copy, PartialEq, Eq, Debug, thiserror::Error)]
 pub enum Refusal {
     /// There is no answer.
     #[error(transparent)]
     NoAnswer(#[from] Error),
+    /// Some run does harm. This is the address of the first offending CCW, and why it offends.
+    #[error("no {0:06X} {word}", word = .1.word())]
+    No(u32, Reason),
     /// No job will do. The job that grants everything has a no with this address and reason.
     #[error("no job will do: {0:06X} {word}", word = .1.word())]
     NoJob(u32, Reason),

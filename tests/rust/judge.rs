@@ -96,7 +96,11 @@ fn lines(found: Result<Needs, Refusal>) -> Result<String, Refusal> {
 
 fn answer(command: &str, deck: &Deck) -> Result<String, Box<dyn Error>> {
     Ok(match command {
-        "verify" => format!(" {}\n", chanv::verify(&deck.job())?),
+        "verify" => match chanv::verify(&deck.job()) {
+            Ok(()) => String::from(" yes\n"),
+            Err(no @ Refusal::No(..)) => format!(" {no}\n"),
+            Err(refusal) => return Err(refusal.into()),
+        },
         "why" => format!(" {}", chanv::why(&deck.job())?),
         "needs" => format!("\n{}", lines(chanv::needs(&deck.source()))?),
         _ => panic!("{command}"),

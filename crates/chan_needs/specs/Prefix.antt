@@ -22,14 +22,14 @@ mask_from a = record { command = 31; address = a; flags = 64; spare = 0; count =
 abbrev pub transfer_to : ℕ → Fields
 transfer_to a = record { command = 8; address = a; flags = 0; spare = 0; count = 0 }
 
--- the last eight bytes of a prefix: bin 0, the cylinder and head 0, in two bytes each, then the mask
--- and a byte that nothing takes
+-- the last eight bytes of a prefix: bin 0, the cylinder and head 0, in two bytes each, then the
+-- mask and a byte that nothing takes
 abbrev pub taken_by_prefix : ℕ → ℕ → List ℕ
 taken_by_prefix cylinder mask =
     (0 ∷ 0 ∷ []) ++ big_bytes 2 cylinder ++ (0 ∷ 0 ∷ mask ∷ 0 ∷ [])
 
--- the CCWs that move the arm and set the mask, in the prefix at address a: under mask 00, with which
--- each chain begins, they set none, so that the program may set its own
+-- the CCWs that move the arm and set the mask, in the prefix at address a: under mask 00, with
+-- which each chain begins, they set none, so that the program may set its own
 abbrev pub setting_ccws : ℕ → Job → List ℕ
 setting_ccws a j =
     if j.mask == 0
