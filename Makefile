@@ -26,7 +26,7 @@ LIBRARIES = ccw_core ckd_core chan_areas chan_walk chan_needs chan_why chan_args
 DECK ?= examples/changes-argument.deck
 
 .PHONY: run libraries $(LIBRARIES) test audit proofs mutants unit_tests lib link install uninstall
-.PHONY: try rustc install-rustc dist fuzz coq table can_prove can_link can_test can_coq can_rustc
+.PHONY: try rustc install-rustc dist fuzz coq table hercules can_prove can_link can_test can_coq can_rustc
 
 run: libraries
 	cd crates/chanv && rt run --jobs $(JOBS) < stdin
@@ -97,6 +97,10 @@ dist:
 coq: can_coq
 	$(MAKE) --no-print-directory -C coq
 	out/coq/chanv-coq verify $(DECK) || test $$? -eq 1
+
+# The module for Hercules, over the library in out/ or out/not_proved; hercules/README.md says more.
+hercules:
+	@$(MAKE) --no-print-directory -s -C hercules all programs
 
 # Prints each public function with the clauses of its contract and its mutants.
 table:

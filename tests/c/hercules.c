@@ -1,4 +1,4 @@
-/* Tries examples/hercules/chanvask.h without Hercules, over random programs that are started again
+/* Tries hercules/chanvask.h without Hercules, over random programs that are started again
  * and again while bytes of storage and storage keys change. Each answer has to be that of
  * chanv_verify about storage as it stands, with all blocks lent that the keys allow; but a program
  * for which some job will do, and that ends though chain data is on, is refused where it first does.
@@ -6,6 +6,8 @@
  *     hercules SEED STARTS
  */
 #include <chanv.h>
+#include <pthread.h>
+#include <stdarg.h>
 #include <stdio.h>
 #include <stdlib.h>
 #include <string.h>
@@ -14,6 +16,7 @@
 
 /* What the header takes from Hercules. */
 typedef uint8_t BYTE;
+typedef uint16_t U16;
 typedef uint32_t U32;
 typedef uint64_t U64;
 typedef struct {
@@ -23,11 +26,9 @@ typedef struct {
     struct {
         BYTE flag4, ccwaddr[4];
     } orb;
-    struct CHANVASK *chanvask;
 } DEVBLK;
 enum { ORB4_KEY = 0xF0, STORKEY_KEY = 0xF0, STORKEY_FETCH = 0x08 };
 #define STORAGE_KEY(address, dev) (dev)->storkeys[(address) >> 11]
-#define _(text) text
 #define logmsg(...) ((void)(0 && printf(__VA_ARGS__)))
 
 static U32 fetch_fw(const BYTE *at)
@@ -40,7 +41,6 @@ static U64 fetch_dw(const BYTE *at)
     return (U64)fetch_fw(at) << 32 | fetch_fw(at + 4);
 }
 
-#define OPTION_CHANV
 #include "chanvask.h"
 
 enum { STORAGE = 0x40000, BLOCKS = STORAGE / 2048, STARTS = 8 };
@@ -86,10 +86,13 @@ static void write_program(U32 at)
     }
 }
 
+static struct CHANVASK ask;
+static struct chanv_area stored; /* what another program in flight may store into */
+
 /* Somebody changes something, above all what a program that is remembered keeps. */
-static void change(const struct CHANVASK *ask, U32 start)
+static void change(U32 start)
 {
-    const struct chanvask_program *taken = &ask->programs[start / 8 % CHANVASK_PROGRAMS];
+    const struct chanvask_program *taken = &ask.programs[start / 8 % CHANVASK_PROGRAMS];
     U32 how = below(16);
 
     if (how == 0)
@@ -102,7 +105,32 @@ static void change(const struct CHANVASK *ask, U32 start)
         const struct chanv_areas *keep = &taken->program.rows.keep;
         struct chanv_area area = keep->at[below((U32)keep->len)];
         storage[area.start + below(area.len)] ^= (BYTE)(1 << below(8));
+    } else if (how == 4) {
+        stored = (struct chanv_area){below(2) ? start : below(STORAGE), below(3) * 64};
+        chanv_row_storing(&stored, &flight.programs[CHANVASK_LOWS]);
     }
+}
+
+/* Whether the program keeps a byte that the other program in flight may store into. Some job will
+ * do for it. */
+static int is_stored_over(U32 start)
+{
+    static const struct chanv_extent disk = CHANV_ALL_CYLINDERS;
+    static const struct chanv_area all = CHANV_ALL_STORAGE;
+    static BYTE memory[1 << 20];
+    struct chanv_program program;
+    struct chanv_needed needed;
+    const struct chanv_job job = {{storage, STORAGE}, {&disk, 1}, {&all, 1}, {&all, 1}, start,
+                                  CHANV_USUAL_LIMIT, 2314, CHANV_OPEN_MASK};
+
+    if (chanv_take_in(&job, memory, sizeof memory, NULL, &program, &needed) != CHANV_OK)
+        return 0;
+    for (size_t i = 0; i < program.rows.keep.len; i++) {
+        struct chanv_area kept = program.rows.keep.at[i];
+        if (kept.start < stored.start + stored.len && stored.start < kept.start + kept.len)
+            return 1;
+    }
+    return 0;
 }
 
 static U32 asked_directly(const DEVBLK *dev, U32 start, struct chanv_verdict *verdict)
@@ -111,13 +139,13 @@ static U32 asked_directly(const DEVBLK *dev, U32 start, struct chanv_verdict *ve
     BYTE key = dev->orb.flag4;
     struct chanv_job job = {
         .storage = {storage, STORAGE},
-        .extents = {dev->chanvask->extents, dev->chanvask->extent_count},
+        .extents = {ask.extents, ask.extent_count},
         .fetch = {fetch, 0},
         .store = {store, 0},
         .start = start,
         .limit = CHANV_USUAL_LIMIT,
         .device = 2314,
-        .mask = dev->chanvask->mask,
+        .mask = ask.mask,
     };
 
     for (U32 block = 0; block < BLOCKS; block++) {
@@ -154,42 +182,88 @@ static U32 stops_at(U32 start)
     return 0;
 }
 
-int main(int argc, char **argv)
+/* Starts random programs, and compares the answers. Returns the exit status. */
+static int try_starts(DEVBLK *dev, U32 count)
 {
-    DEVBLK dev = {0x190, 0x2314, storage, keys, STORAGE - 1, {0, {0}}, NULL};
-    U32 starts[STARTS], yes = 0, stopped = 0, count = argc > 2 ? (U32)atoi(argv[2]) : 0;
+    U32 starts[STARTS], yes = 0, stopped = 0, beside = 0;
 
-    state = argc > 1 ? (U64)atoi(argv[1]) : 1;
-    if (!chanvask_arg(&dev, "chanv=0-9,12-19") || !chanvask_arg(&dev, "chanvmask=80")
-        || !chanvask_arg(&dev, "chanvrefuse") || chanvask_arg(&dev, "chanvmask=81")
-        || chanvask_arg(&dev, "chanvask"))
-        return 2;
     for (int i = 0; i < STARTS; i++)
         write_program(starts[i] = 8 * below(STORAGE / 8 - 16));
     for (U32 i = 0; i < count; i++) {
-        U32 start = starts[below(STARTS)], answer, address = 0;
+        U32 start = starts[below(STARTS)], answer, stop;
+        const struct chanv_program *program;
         struct chanv_verdict verdict;
-        change(dev.chanvask, start);
-        dev.orb.flag4 = (BYTE)(below(3) << 4);
-        for (int byte = 0; byte < 4; byte++)
-            dev.orb.ccwaddr[byte] = (BYTE)(start >> (24 - 8 * byte));
-        chanvask(&dev);
-        answer = asked_directly(&dev, start, &verdict);
-        U32 stop = stops_at(start);
+        change(start);
+        dev->orb.flag4 = (BYTE)(below(3) << 4);
+        program = chanvask_ask(&ask, start);
+        answer = asked_directly(dev, start, &verdict);
+        stop = stops_at(start);
         if (stop != 0) {
             answer = CHANV_NO, verdict.address = stop;
             stopped++;
+        } else if (answer == CHANV_YES && is_stored_over(start)) {
+            answer = CHANV_NO, verdict.address = start;
+            beside++;
         }
         yes += answer == CHANV_YES;
-        if (chanvask_refuses(&dev, &address) != (answer != CHANV_YES)
-            || (answer == CHANV_NO && address != verdict.address + 8)) {
+        if ((program != NULL) != (answer == CHANV_YES)
+            || (answer == CHANV_NO && ask.address != verdict.address)) {
             printf("differs at start %u of %06X: %u %06X, not %06X\n", i, start, answer,
-                   verdict.address, address - 8);
+                   verdict.address, ask.address);
             return 1;
         }
     }
-    printf("%u starts, %u yes, %u stopped, %u questions\n", count, yes, stopped,
-           (unsigned)dev.chanvask->questions);
-    chanvask_end(&dev);
+    printf("%u starts, %u yes, %u stopped, %u beside, %u questions\n", count, yes, stopped, beside,
+           (unsigned)ask.questions);
     return 0;
+}
+
+/* How long a start is held up, beside eight programs in flight like it. */
+static void measure(U32 count)
+{
+    static struct CHANVASK others[8];
+    struct timespec began, ended;
+    U32 yes = 0;
+
+    for (U32 i = 0; i < 9; i++) { /* seek to cylinder 5, search, transfer, and read */
+        U32 at = 0x1000 + i * 0x800;
+        struct CHANVASK *one = i < 8 ? &others[i] : &ask;
+        put(at, 0x07000000 | (at + 0x100), 0x40000006);
+        put(at + 8, 0x31000000 | (at + 0x102), 0x60000005);
+        put(at + 16, 0x08000000 | (at + 8), 0);
+        put(at + 24, 0x06000000 | (at + 0x200), 0x20000050);
+        put(at + 0x100, 5, 0);
+        one->dev = ask.dev;
+        chanvask_arg(one, "chanv=0-9");
+        if (i < 8)
+            flight.programs[flight.rows++] = *chanvask_ask(one, at);
+    }
+    clock_gettime(CLOCK_PROCESS_CPUTIME_ID, &began);
+    for (U32 i = 0; i < count; i++)
+        yes += chanvask_ask(&ask, 0x5000) != NULL;
+    clock_gettime(CLOCK_PROCESS_CPUTIME_ID, &ended);
+    printf("%u of %u yes beside 8, %.0f ns a start\n", yes, count,
+           ((double)(ended.tv_sec - began.tv_sec) * 1e9 + (double)(ended.tv_nsec - began.tv_nsec))
+               / count);
+}
+
+int main(int argc, char **argv)
+{
+    DEVBLK dev = {0x190, 0x2314, storage, keys, STORAGE - 1, {0, {0}}};
+    U32 count = argc > 2 ? (U32)atoi(argv[2]) : 0;
+    int status = 0;
+
+    state = argc > 1 ? (U64)atoi(argv[1]) : 1;
+    ask.dev = &dev;
+    flight.rows = CHANVASK_LOWS + 1;
+    if (!chanvask_arg(&ask, "chanv=0-9,12-19") || !chanvask_arg(&ask, "chanvmask=80")
+        || !chanvask_arg(&ask, "chanvrefuse") || chanvask_arg(&ask, "chanvmask=81")
+        || chanvask_arg(&ask, "chanvask"))
+        return 2;
+    if (state == 0)
+        measure(count);
+    else
+        status = try_starts(&dev, count);
+    chanvask_end(&ask);
+    return status;
 }

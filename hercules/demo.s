@@ -4,7 +4,8 @@
 # `changing` defined it changes a byte of it after each of them. With `around` defined it starts a
 # fourth alone; then the last byte but one is the cylinder whose home address was read. With `masked`
 # defined it sets the mask 18, by which a seek is inhibited, in a start of its own, then starts a
-# seek, and then the same seek through a prefix that sets the mask; the bytes are unit statuses.
+# seek, and then the same seek through a prefix that sets the mask; the bytes are unit statuses. With
+# `low` defined it starts a program alone that is in low storage.
 
         .macro  ccw code, address, flags, count
         .long   (\code << 24) + \address, ((\flags) << 24) + \count
@@ -23,6 +24,10 @@
         .equ    alone, 1
         .endif
 
+        .ifdef  low
+        .equ    alone, 1
+        .endif
+
         .text
         .globl  _start
 _start: .long   0, main                 # the PSW for a restart
@@ -30,6 +35,9 @@ _start: .long   0, main                 # the PSW for a restart
         .long   0x00020000, 0xDEAD      # for a program check: a disabled wait
         .org    0x78
         .long   0, ended                # for an input/output interruption
+
+        .org    0x180
+in_low: ccw     0x03, 0, any_length, 1
 
         .org    0x200
 main:   la      %r1,0x80                # the 2,048 bytes from 800 on have key 8, all others key 0
@@ -78,6 +86,9 @@ caws:
         .endif
         .ifdef  masked
         .long   (key << 28) + sets_mask, (key << 28) + seeks, (key << 28) + prefix
+        .endif
+        .ifdef  low
+        .long   (key << 28) + in_low
         .endif
         .ifndef alone
         .long   (key << 28) + good
