@@ -243,6 +243,7 @@ static int our_init(DEVBLK *dev, int argc, char *argv[])
     if (disk == NULL || disk->ask.running > 0) {
         logmsg("HHCCV011E %4.4X: chanv has %s\n", dev->devnum,
                disk == NULL ? "no memory for this disk" : "a program in flight from before");
+        dev->hnd = disk == NULL ? &unopened : &disk->ours; /* where the program ends */
         return -1;
     }
     for (i = 0; i < argc; i++)

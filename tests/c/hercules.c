@@ -159,8 +159,10 @@ static U32 asked_directly(const DEVBLK *dev, U32 start, struct chanv_verdict *ve
     return chanv_verify(&job, verdict);
 }
 
-/* The address of the first No Operation with chain data that the program comes to, if some job will
- * do for it; else 0. Programs begin above 0. */
+enum { NOWHERE = STORAGE };
+
+/* The address of the first No Operation or Recalibrate with chain data that the program comes to, if
+ * some job will do for it; else NOWHERE. */
 static U32 stops_at(U32 start)
 {
     static const struct chanv_extent disk = CHANV_ALL_CYLINDERS;
@@ -173,13 +175,14 @@ static U32 stops_at(U32 start)
 
     if (chanv_verify(&job, &verdict) != CHANV_YES
         || chanv_list(&job, places, CHANV_USUAL_LIMIT, &count, &extent) != CHANV_OK)
-        return 0;
+        return NOWHERE;
     for (size_t i = 0; i < count; i++) {
         const BYTE *ccw = storage + places[i].address;
-        if (places[i].entered == CHANV_ENTERED_FRESH && ccw[0] == 0x03 && ccw[4] & 0x80)
+        if (places[i].entered == CHANV_ENTERED_FRESH && (ccw[0] | 0x10) == 0x13
+            && ccw[4] & 0x80)
             return places[i].address;
     }
-    return 0;
+    return NOWHERE;
 }
 
 /* Starts random programs, and compares the answers. Returns the exit status. */
@@ -198,7 +201,7 @@ static int try_starts(DEVBLK *dev, U32 count)
         program = chanvask_ask(&ask, start);
         answer = asked_directly(dev, start, &verdict);
         stop = stops_at(start);
-        if (stop != 0) {
+        if (stop != NOWHERE) {
             answer = CHANV_NO, verdict.address = stop;
             stopped++;
         } else if (answer == CHANV_YES && is_stored_over(start)) {
