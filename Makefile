@@ -171,6 +171,7 @@ BESIDES =
 # What the pages link to outside docs/, and the decks and programs that they name. README makes
 # examples/dump.deck.
 SHOWN = $(filter-out %/dump.deck,$(wildcard examples/*.* examples/*/*.*)) \
+  hercules/Makefile $(wildcard hercules/*.*) \
   bench/README.md coq/README.md python/README.md rustc/README.md
 TO = $(DESTDIR)$(PREFIX)
 TO_LIB = $(DESTDIR)$(LIBDIR)
@@ -193,7 +194,7 @@ install:
 	install -m 644 docs/*.md docs/*.svg "$(TO)/share/doc/chanv/docs"
 	@for shown in $(SHOWN); do \
 	  install -D -m 644 "$$shown" "$(TO)/share/doc/chanv/$$shown" || exit 1; done
-	chmod 755 "$(TO)/share/doc/chanv/examples/hercules/try.sh"
+	chmod 755 "$(TO)/share/doc/chanv/hercules/fetch.sh"
 	install -d "$(TO_LIB)/pkgconfig"
 	sed -e 's|@PREFIX@|$(PREFIX)|; s|@VERSION@|$(VERSION)|' \
 	  -e 's|@LIBDIR@|$(subst $(PREFIX)/,$${prefix}/,$(LIBDIR))|; /^Desc/s|$$|$(BESIDES)|' \

@@ -252,8 +252,8 @@ static inline void chanvask_copy(struct chanv_job *job)
     job->storage.at = chanvask_storage;
 }
 
-/* Asks why the program may not run, and tells it. No room for the path is a no too, with no place of
- * it written. After a yes something has changed since the refusal. */
+/* Asks why the program may not run, and tells it. No room for the path is a no too, with no place
+ * of it written. After a yes something has changed since the refusal. */
 static inline void chanvask_why(struct CHANVASK *ask, U32 start)
 {
     static const struct chanv_area all = CHANV_ALL_STORAGE;

@@ -2,10 +2,10 @@
 # wait. The three low bytes of its PSW are the channel statuses with which they ended. With `rounds`
 # defined it starts the first of them alone, so many times, under the key that `key` says, and with
 # `changing` defined it changes a byte of it after each of them. With `around` defined it starts a
-# fourth alone; then the last byte but one is the cylinder whose home address was read. With `masked`
-# defined it sets the mask 18, by which a seek is inhibited, in a start of its own, then starts a
-# seek, and then the same seek through a prefix that sets the mask; the bytes are unit statuses. With
-# `low` defined it starts a program alone that is in low storage.
+# fourth alone; then the last byte but one is the cylinder whose home address was read. With
+# `masked` defined it sets the mask 18, by which a seek is inhibited, in a start of its own, then
+# starts a seek, and then the same seek through a prefix that sets the mask; the bytes are unit
+# statuses. With `low` defined it starts a program alone that is in low storage.
 
         .macro  ccw code, address, flags, count
         .long   (\code << 24) + \address, ((\flags) << 24) + \count

@@ -3,8 +3,8 @@
 #
 #     fetch.sh [FOLDER [TARBALL]]
 #
-# FOLDER is where the source goes, out/hercules/source at the top if left out. The tarball comes from
-# where apt takes packages from, also if apt isn't set up for sources, unless TARBALL names it.
+# FOLDER is where the source goes, out/hercules/source at the top if left out. The tarball comes
+# from where apt takes packages from, also if apt isn't set up for sources, unless TARBALL names it.
 set -euo pipefail
 to=$(realpath -m "${1:-$(dirname "$0")/../out/hercules/source}")
 room=$(mktemp -d)

@@ -1,6 +1,6 @@
-# Starts search loops that find nothing on the disks from 191 on, one on each, and then, beside them,
-# a program on the disk at 190. It stops in a disabled wait, whose low byte is the channel status with
-# which the last program on 190 ended.
+# Starts search loops that find nothing on the disks from 191 on, one on each, and then, beside
+# them, a program on the disk at 190. It stops in a disabled wait, whose low byte is the channel
+# status with which the last program on 190 ended.
 #
 #   loops     how many loops there are, 1 if left out
 #   apart     with it, what a loop would read goes beside the program on 190, and not over it

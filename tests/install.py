@@ -43,7 +43,7 @@ PREFIX = "/usr/local"
 
 # what runs is for all to run, and everything else for all to read
 RUNS, READ, LINK = "-rwxr-xr-x", "-rw-r--r--", "lrwxrwxrwx"
-DOCS, TRIED = "share/doc/chanv", "examples/hercules/try.sh"
+DOCS, FETCHES = "share/doc/chanv", "hercules/fetch.sh"
 # what a stage has beside the pages
 STAGED = {
     "bin/chanv": RUNS,
@@ -203,6 +203,7 @@ def shown_files():
     files = [ROOT / "README.md", ROOT / "CHANGELOG.md", *(ROOT / "docs").glob("*.svg")]
     files += [*(ROOT / "docs").glob("*.md"), *EXAMPLES.glob("*.*"), *EXAMPLES.glob("*/*.*")]
     files += [ROOT / f"{it}/README.md" for it in ("bench", "coq", "python", "rustc")]
+    files += [ROOT / "hercules/Makefile", *(ROOT / "hercules").glob("*.*")]
     return {str(it.relative_to(ROOT)) for it in files} - {"examples/dump.deck"}
 
 
@@ -220,7 +221,7 @@ def check_stage(checks, folder):
         modes = {it: it.lstat().st_mode for it in stage.rglob("*")}
         folders = {stat.filemode(mode) for mode in modes.values() if stat.S_ISDIR(mode)}
         checks.expect("the modes of its folders", {"drwxr-xr-x"}, folders)
-        wanted = {f"{DOCS}/{name}": READ for name in shown_files()} | {f"{DOCS}/{TRIED}": RUNS}
+        wanted = {f"{DOCS}/{name}": READ for name in shown_files()} | {f"{DOCS}/{FETCHES}": RUNS}
         wanted |= STAGED | {f"{libraries}/{it}": mode for it, mode in STAGED_LIBRARIES.items()}
         files = {os.path.relpath(it, to): mode for it, mode in modes.items() if not it.is_dir()}
         for name in sorted({*wanted, *files}):

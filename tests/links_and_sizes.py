@@ -12,7 +12,8 @@ from running import text_of
 
 README = ROOT / "README.md"
 DOCS = sorted((ROOT / "docs").glob("*.md"))
-OTHERS = [ROOT / "CHANGELOG.md", *(ROOT / f"{it}/README.md" for it in ("bench", "coq", "python", "rustc"))]
+BESIDE = ("bench", "coq", "hercules", "python", "rustc")
+OTHERS = [ROOT / "CHANGELOG.md", *(ROOT / f"{it}/README.md" for it in BESIDE)]
 OTHERS += sorted(ROOT.glob("examples/**/*.md"))
 PAGES = [README, *DOCS, *OTHERS]
 GLOSSARY = ROOT / "docs/GLOSSARY.md"

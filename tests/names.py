@@ -26,7 +26,7 @@ OUTSIDE = set(
     dlopen ldconfig mprotect MAP_FIXED ls
     find_package pkg_check_modules PkgConfig IMPORTED_TARGET dependency
     rustup s390x-unknown-linux-gnu s390x-linux-gnu-gcc
-    lib share/chanv/python
+    lib share/chanv/python share/doc/chanv/hercules
     """.split()
 )
 

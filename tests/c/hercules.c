@@ -1,9 +1,11 @@
-/* Tries hercules/chanvask.h without Hercules, over random programs that are started again
- * and again while bytes of storage and storage keys change. Each answer has to be that of
- * chanv_verify about storage as it stands, with all blocks lent that the keys allow; but a program
- * for which some job will do, and that ends though chain data is on, is refused where it first does.
+/* Tries hercules/chanvask.h without Hercules, over random programs that are started again and again
+ * while bytes of storage, storage keys and what another program may store into change. Each answer
+ * has to be that of chanv_verify about storage as it is, with all blocks lent that the keys allow.
+ * But a program for which some job will do, and that ends though chain data is on, is refused where
+ * it first does, and so is a program that may be stored over.
  *
  *     hercules SEED STARTS
+ *     hercules 0 STARTS      says how long a start takes beside eight programs in flight
  */
 #include <chanv.h>
 #include <pthread.h>
@@ -161,8 +163,8 @@ static U32 asked_directly(const DEVBLK *dev, U32 start, struct chanv_verdict *ve
 
 enum { NOWHERE = STORAGE };
 
-/* The address of the first No Operation or Recalibrate with chain data that the program comes to, if
- * some job will do for it; else NOWHERE. */
+/* The address of the first No Operation or Recalibrate with chain data that the program comes to,
+ * if some job will do for it; else NOWHERE. */
 static U32 stops_at(U32 start)
 {
     static const struct chanv_extent disk = CHANV_ALL_CYLINDERS;

@@ -1,5 +1,5 @@
-/* Preloaded under a program: refuses memory of some sizes, so that its own growths can be refused in a
- * program that needs memory for other things too.
+/* Preloaded under a program: refuses memory of some sizes, in a program that needs memory for other
+ * things too.
  *
  *     REFUSED_FROM, REFUSED_TO   the sizes that malloc and calloc refuse
  */
