@@ -5,8 +5,9 @@
 # to where users expect it, the libraries to LIBDIR, and builds nothing; `make uninstall` removes it.
 # `make table` prints the contracts. `make rustc` needs no kit: from the same sources plain rustc
 # builds program and library in out/not_proved, with nothing proved, and `make install-rustc` copies
-# them. `make coq` needs no kit either: it proves the laws again in Coq, and builds a second
-# verifier, which is proved there.
+# them. `make hercules` builds the module for the emulator over one of the two libraries. `make coq`
+# needs no kit either: it proves the laws again in Coq, and builds a second verifier, which is proved
+# there.
 
 PREFIX ?= /usr/local
 LIBDIR ?= $(PREFIX)/lib

@@ -27,9 +27,15 @@ static DEVHND unopened; /* the handlers of a disk that is yet to be opened */
 extern void ATTR_REGPARM(2) s370_start_io(BYTE *instruction, REGS *regs);
 static void our_start(DEVBLK *dev);
 
-static struct disk *disk_of(DEVBLK *dev)
+static struct disk *disk_of(const DEVHND *ours)
 {
-    return (struct disk *)((char *)dev->hnd - offsetof(struct disk, ours));
+    return (struct disk *)((char *)ours - offsetof(struct disk, ours));
+}
+
+/* Whether handlers are ours. A device that is being attached has none yet. */
+static int is_ours(const DEVHND *hnd)
+{
+    return hnd != NULL && hnd->start == our_start;
 }
 
 static struct disk *make_disk(DEVBLK *dev)
@@ -73,14 +79,14 @@ static int look_at_processors(void)
 /* A device on which a program without a yes is in flight, or NULL. */
 static const DEVBLK *unjudged(void)
 {
-    DEVBLK *dev;
+    const DEVBLK *dev;
 
-    for (dev = sysblk.firstdev; dev != NULL; dev = dev->nextdev)
-        if (dev->hnd != NULL && dev->hnd->start == our_start) {
-            if (disk_of(dev)->ask.is_unjudged)
-                break;
-        } else if (dev->allocated && (dev->startpending || (dev->busy && !is_lent(dev))))
+    for (dev = sysblk.firstdev; dev != NULL; dev = dev->nextdev) {
+        const DEVHND *hnd = *(DEVHND *const volatile *)&dev->hnd; /* others may attach it */
+        if (is_ours(hnd) ? disk_of(hnd)->ask.is_unjudged
+                         : dev->allocated && (dev->startpending || (dev->busy && !is_lent(dev))))
             break;
+    }
     return dev;
 }
 
@@ -161,7 +167,7 @@ static int begins(struct CHANVASK *ask, U32 start)
  * program check too, where storage is too large for one behind it. */
 static void our_start(DEVBLK *dev)
 {
-    struct disk *disk = disk_of(dev);
+    struct disk *disk = disk_of(dev->hnd);
 
     pthread_mutex_lock(&flight.lock);
     if (is_lent(dev))
@@ -210,7 +216,7 @@ static void forget(struct disk *disk)
 
 static void our_end(DEVBLK *dev)
 {
-    struct disk *disk = disk_of(dev);
+    struct disk *disk = disk_of(dev->hnd);
 
     if (disk->real->end != NULL)
         disk->real->end(dev);
@@ -224,7 +230,7 @@ static void our_end(DEVBLK *dev)
 
 static int our_close(DEVBLK *dev)
 {
-    struct disk *disk = disk_of(dev);
+    struct disk *disk = disk_of(dev->hnd);
     int answer = disk->real->close(dev);
 
     pthread_mutex_lock(&flight.lock);
@@ -236,10 +242,13 @@ static int our_close(DEVBLK *dev)
 
 static int our_init(DEVBLK *dev, int argc, char *argv[])
 {
-    struct disk *disk = make_disk(dev);
+    struct disk *disk;
     char *left[argc + 1];
     int i, count = 0, answer;
 
+    pthread_mutex_lock(&flight.lock);
+    disk = make_disk(dev);
+    pthread_mutex_unlock(&flight.lock);
     if (disk == NULL || disk->ask.running > 0) {
         logmsg("HHCCV011E %4.4X: chanv has %s\n", dev->devnum,
                disk == NULL ? "no memory for this disk" : "a program in flight from before");
@@ -258,12 +267,24 @@ static int our_init(DEVBLK *dev, int argc, char *argv[])
     disk->ours.end = our_end;
     disk->ours.close = our_close;
     dev->hnd = &disk->ours;
+    pthread_mutex_lock(&flight.lock);
     if (answer < 0)
         forget(disk);
+    pthread_mutex_unlock(&flight.lock);
     return answer;
 }
 
-/* A Start I/O to a device that isn't ours may start a program that nobody judges. */
+static void note_start(const DEVBLK *dev)
+{
+    if (dev == NULL || is_ours(dev->hnd))
+        return;
+    pthread_mutex_lock(&flight.lock);
+    begin_unjudged(dev);
+    pthread_mutex_unlock(&flight.lock);
+}
+
+/* A Start I/O to a device that isn't ours may start a program that nobody judges. It is noted before
+ * and after: between the two a program may get a yes, and the device isn't busy yet. */
 static void ATTR_REGPARM(2) start_io(BYTE *instruction, REGS *regs)
 {
     U32 base = instruction[2] >> 4, at = (instruction[2] << 8 | instruction[3]) & 0xFFF;
@@ -271,12 +292,9 @@ static void ATTR_REGPARM(2) start_io(BYTE *instruction, REGS *regs)
 
     at += base == 0 ? 0 : regs->GR_L(base);
     dev = find_device_by_devnum(regs->chanset, at & 0xFFFF);
-    if (dev != NULL && dev->hnd->start != our_start) {
-        pthread_mutex_lock(&flight.lock);
-        begin_unjudged(dev);
-        pthread_mutex_unlock(&flight.lock);
-    }
+    note_start(dev);
     s370_start_io(instruction, regs);
+    note_start(dev);
 }
 
 static void show_version(void)
@@ -338,6 +356,17 @@ HDL_INSTRUCTION_SECTION;
     hdl_init_dins(HDL_INSTARCH_370, 0x9C00, "start_io", start_io);
 END_INSTRUCTION_SECTION
 
+static void free_disks(void)
+{
+    struct disk *next;
+
+    for (; disks != NULL; disks = next) {
+        next = disks->next;
+        free(disks);
+    }
+    flight.rows = CHANVASK_LOWS;
+}
+
 /* A disk that is attached, or a program in flight, uses the module. */
 HDL_FINAL_SECTION;
     const struct disk *disk;
@@ -345,4 +374,5 @@ HDL_FINAL_SECTION;
     for (disk = disks; disk != NULL; disk = disk->next)
         if (disk->ask.running > 0 || disk->ask.dev->hnd == &disk->ours)
             return -1;
+    free_disks();
 END_FINAL_SECTION

@@ -18,7 +18,10 @@ fetch() {
     local from=(-o "Dir::Etc::SourceList=$room/sources.list" -o Dir::Etc::SourceParts=-
         -o "Dir::State::Lists=$room/lists" -o APT::Sandbox::User=)
     apt-get -qq "${from[@]}" update
-    (cd "$room" && apt-get -qq "${from[@]}" source --download-only --tar-only hercules)
+    local version
+    # shellcheck disable=SC2016
+    version=$(dpkg-query -W -f '=${source:Version}' hercules 2> /dev/null || true)
+    (cd "$room" && apt-get -qq "${from[@]}" source --download-only --tar-only "hercules$version")
 }
 
 [ $# -ge 2 ] || fetch

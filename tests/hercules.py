@@ -260,7 +260,7 @@ FORGETFUL = [
     ("two at once", "ARCH_370 && ask->running == 0)", "ARCH_370)", "system reset in flight"),
     ("others", "(other = unjudged()) != NULL", "0", "a disk that doesn't ask"),
     ("a no", "ask->is_unjudged = 1;", ";", "beside a no"),
-    ("Start I/O", "begin_unjudged(dev);\n        pthread", ";\n        pthread", "a printer"),
+    ("Start I/O", "    begin_unjudged(dev);\n    pthread", "    ;\n    pthread", "a printer"),
     ("the kept bytes", "chanvask_has_changed(program,", "0 && chanvask_has_changed(program,",
      "a kept byte"),
     ("low storage", "chanv_row_storing(", "(void)(", "low storage"),
