@@ -19,7 +19,7 @@ struct disk {
     struct disk *next;
 };
 
-#define BEHIND 0xFF000000
+#define BEHIND 0xFF000000 /* storage ends before, unless it has 4,080 MiB */
 
 static struct disk *disks;
 static DEVHND unopened; /* the handlers of a disk that is yet to be opened */

@@ -13,6 +13,7 @@ enum {
     CHANVASK_EXTENTS = 32,  /* may be in a device statement */
     CHANVASK_PROGRAMS = 64, /* are remembered for a disk */
     CHANVASK_PATH = 64,     /* places of a path are logged */
+    CHANVASK_ROUNDS = 16,   /* of bringing blocks; after these all are brought */
     CHANVASK_TOLD = 8192,   /* the lines about a refusal have fewer bytes */
     CHANVASK_BLOCK = 2048,  /* bytes have one storage key in S/370 mode */
     CHANVASK_STORAGE = 0x1000000, /* bytes can be named by CCWs */
@@ -203,36 +204,40 @@ static inline void chanvask_tell_path(struct CHANVASK *ask, const struct chanv_p
     }
 }
 
-static inline void chanvask_bring(const struct chanv_job *job, U32 address)
+/* Brings the block of a byte into the copy. Returns whether that changes the copy. */
+static inline int chanvask_bring(const struct chanv_job *job, U32 address)
 {
-    U32 block = address / CHANVASK_BLOCK * CHANVASK_BLOCK;
+    U32 at = address / CHANVASK_BLOCK * CHANVASK_BLOCK;
 
-    if (address < job->storage.len)
-        memcpy(chanvask_storage + block, job->storage.at + block, CHANVASK_BLOCK);
+    if (address >= job->storage.len
+        || memcmp(chanvask_storage + at, job->storage.at + at, CHANVASK_BLOCK) == 0)
+        return 0;
+    memcpy(chanvask_storage + at, job->storage.at + at, CHANVASK_BLOCK);
+    return 1;
 }
 
-/* Brings the blocks of a CCW and of the data chain that it begins into the copy, with those of six
- * bytes of data of each: there an argument or a mask may be. An argument has six CCWs at most, and
- * between each two a transfer. */
-static inline void chanvask_bring_chain(const struct chanv_job *job, U32 address)
+/* Brings the blocks of a CCW and of the data chain that it begins, with those of six bytes of data
+ * of each: there an argument or a mask may be. An argument has six CCWs at most, and between each
+ * two a transfer. */
+static inline int chanvask_bring_chain(const struct chanv_job *job, U32 address)
 {
-    int left;
+    int more = 0, left;
 
     for (left = 11; left > 0 && address % 8 == 0 && address < job->storage.len; left--) {
         const BYTE *ccw = chanvask_storage + address;
         U32 data;
-        chanvask_bring(job, address);
+        more |= chanvask_bring(job, address);
         data = (U32)ccw[1] << 16 | (U32)ccw[2] << 8 | ccw[3];
-        chanvask_bring(job, data);
-        chanvask_bring(job, data + 5);
+        more |= chanvask_bring(job, data) | chanvask_bring(job, data + 5);
         if ((ccw[0] & 0x0F) != 0x08 && !(ccw[4] & 0x80))
             break;
         address = (ccw[0] & 0x0F) == 0x08 ? data : address + 8;
     }
+    return more;
 }
 
-/* Takes the job to the copy, into which the blocks are brought that the program comes to. Storage
- * may change meanwhile: what it held just now says which blocks these are. */
+/* Takes the job to the copy, into which all is brought that counts: the blocks to which the places
+ * that are listed there lead, until the copy changes no more. */
 static inline void chanvask_copy(struct chanv_job *job)
 {
     static const struct chanv_extent disk = CHANV_ALL_CYLINDERS;
@@ -240,15 +245,20 @@ static inline void chanvask_copy(struct chanv_job *job)
     static struct chanv_place places[CHANV_USUAL_LIMIT];
     struct chanv_job open = *job;
     size_t i, count, extent;
+    int round, more = 1;
 
+    open.storage.at = chanvask_storage;
     open.extents = (struct chanv_extents){&disk, 1};
     open.fetch = open.store = (struct chanv_areas){&all, 1};
     open.mask = CHANV_OPEN_MASK;
-    if (chanv_list(&open, places, CHANV_USUAL_LIMIT, &count, &extent) != CHANV_OK)
+    for (round = 0; more && round < CHANVASK_ROUNDS; round++) {
+        if (chanv_list(&open, places, CHANV_USUAL_LIMIT, &count, &extent) != CHANV_OK)
+            break;
+        for (more = 0, i = 0; i < count; i++)
+            more |= chanvask_bring_chain(job, places[i].address);
+    }
+    if (more)
         memcpy(chanvask_storage, job->storage.at, job->storage.len);
-    else
-        for (i = 0; i < count; i++)
-            chanvask_bring_chain(job, places[i].address);
     job->storage.at = chanvask_storage;
 }
 

@@ -8,6 +8,7 @@
 #   still     with it, the loops do nothing to the disks, so that Hercules's cache of tracks rests
 #   spoil     with it, the processor changes a CCW of the loops, and
 #   release   with it, what they look for, so that they end
+#   halts     with it, a Halt I/O is issued to 191 meanwhile
 #   prints    with it, a program is started on the printer at 00E meanwhile
 
         .macro  ccw code, address, flags, count
@@ -42,6 +43,10 @@ begin:  .long   0x9C002000              # SIO 0(2)
         bct     %r8,begin
         l       %r9,delay               # until they are on their way
 wait:   bct     %r9,wait
+        .ifdef  halts
+        la      %r2,0x191
+        .long   0x9E002000              # HIO 0(2)
+        .endif
         .ifdef  prints
         l       %r4,caws+8
         st      %r4,0x48
@@ -75,7 +80,7 @@ ended:  lh      %r5,0x3A                # the device that interrupts
 busy:   .long   0xFE020000, 0           # waits for an interruption
 halt:   .long   0x00020000, 0
 caws:   .long   0x80000000 + loop, 0x80000000 + good, 0x80000000 + print
-delay:  .long   100000
+delay:  .long   5000000
 low:    .long   0xFFF
 times:  .long   rounds
 

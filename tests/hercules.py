@@ -36,7 +36,9 @@ CARELESS = [
     ("the comparison", "code <= CHANV_REFUSED_CHANGED", "code < CHANV_REFUSED_CHANGED"),
     ("the keys", "(has & STORKEY_KEY) == key", "has < 255"),
     ("fetch protection", "(fetching && !(has & STORKEY_FETCH))", "fetching"),
-    ("the arguments", "bring(job, data);\n        chanvask_bring(job, data + 5)", "bring(job, 0)"),
+    ("the arguments", "chanvask_bring(job, data) | chanvask_bring(job, data + 5)", "0"),
+    ("scattered programs", "if (more)\n", "if (0)\n"),
+    ("data chains", " && !(ccw[4] & 0x80)", ""),
     ("what goes on where chanv stops", "CHANV_OK && !needed.ends_chaining", "CHANV_OK"),
     ("the table", "flight.programs, flight.rows, program", "NULL, 0, program"),
 ]
@@ -193,6 +195,11 @@ CASES = [
         f"HHCCV012I 0190: nothing in flight; {ONCE}HHCCV010W 0191: chanv judges no program beside "
         f"another on it, start 000840, not started\n{YES_190}{ENDED}",
         ("sysreset", "chanv", "restart", "pause 2"),
+    ),
+    Case(
+        "Halt I/O in flight", "two apart=1 still=1 halts=1", (ASKS, f"nosyncio {ASKS}"),
+        f"{YES_191}{YES_190}{ENDED}HHCCV012I 0191: judged in flight; {ONCE}"
+        f"HHCCV012I 0190: nothing in flight; {ONCE}", ("chanv",),
     ),
     Case(
         "the end after a search", "two apart=1 rounds=0 release=1", (ASKS, ASKS),
@@ -363,6 +370,24 @@ def check_careless(checks, library, room, source):
         check_cases(checks, folder / "chanv.so", room, [first], name)
 
 
+def check_headers(checks, library, room, source):
+    """A module with the headers of another Hercules isn't loaded."""
+    other = room / "other"
+    shutil.copytree(source, other, ignore=lambda folder, names: [
+        name for name in names if not name.endswith(".h") and not Path(folder, name).is_dir()])
+    text = text_of(source / "hstructs.h")
+    checks.expect("hstructs.h has DEVBLK, once", 1, text.count("\nstruct DEVBLK {"))
+    (other / "hstructs.h").write_text(text.replace("\nstruct DEVBLK {", "\nstruct DEVBLK { int it;"))
+    ran = make_module(library, other, other / "built", FOLDER)
+    checks.expect("a module with other headers is built", 0, ran.status)
+    (room / "other.cnf").write_text(f"ARCHMODE S/370\nLDMOD {other}/built/chanv.so\n")
+    (room / "other.rc").write_text("pause 1\nquit\n")
+    ran = run("timeout", "-s", "KILL", "90", "hercules", "-d", "-f", "other.cnf", cwd=room,
+              env={**os.environ, "HERCULES_RC": "other.rc"}, timeout=MOST_SECONDS)
+    is_refused = "HHCHD014E Dependency check failed for module chanv.so" in ran.output
+    checks.expect_that("other headers", is_refused and "HHCCV" not in ran.output, ran.output[-600:])
+
+
 def check_module(checks, library, room):
     missing = [name for name in ("hercules", "dasdinit", ASSEMBLER) if not shutil.which(name)]
     tarball = os.environ.get("HERCULES_TARBALL")
@@ -375,6 +400,7 @@ def check_module(checks, library, room):
     to = room / "built"
     checks.expect("make hercules", 0, make_module(library, source, to, FOLDER).status)
     check_missing(checks, library, room, source)
+    check_headers(checks, library, room, source)
     check_cases(checks, to / "chanv.so", room, CASES)
     check_careless(checks, library, room, source)
 
