@@ -248,6 +248,8 @@ static int our_init(DEVBLK *dev, int argc, char *argv[])
 
     pthread_mutex_lock(&flight.lock);
     disk = make_disk(dev);
+    if (disk != NULL && disk->ask.running == 0)
+        chanvask_end(&disk->ask); /* nothing of an earlier statement is left */
     pthread_mutex_unlock(&flight.lock);
     if (disk == NULL || disk->ask.running > 0) {
         logmsg("HHCCV011E %4.4X: chanv has %s\n", dev->devnum,
@@ -283,8 +285,8 @@ static void note_start(const DEVBLK *dev)
     pthread_mutex_unlock(&flight.lock);
 }
 
-/* A Start I/O to a device that isn't ours may start a program that nobody judges. It is noted before
- * and after: between the two a program may get a yes, and the device isn't busy yet. */
+/* A Start I/O to a device that isn't ours may start a program that nobody judges. It is noted
+ * before and after: between the two a program may get a yes, and the device isn't busy yet. */
 static void ATTR_REGPARM(2) start_io(BYTE *instruction, REGS *regs)
 {
     U32 base = instruction[2] >> 4, at = (instruction[2] << 8 | instruction[3]) & 0xFFF;
