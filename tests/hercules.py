@@ -30,6 +30,8 @@ SEEDS, STARTS = range(1, 9), 20000
 MOST_SECONDS = 600
 # Hercules itself may crash if a disk is detached with a program in flight: so often it is tried
 CRASHES = 6
+# how much longer the pauses are if what was logged isn't what comes, as on a machine that is busy
+LONGER = 4
 
 # What is left out, the text that is in the header for it, and the text that is there instead.
 CARELESS = [
@@ -305,7 +307,7 @@ def assemble(program, room):
             raise OSError(f"{program} isn't assembled")
 
 
-def play(module, case, room, preload):
+def play(module, case, room, preload, longer=1):
     """What Hercules logs of a case: the lines of the module, and the PSW of a disabled wait."""
     assemble(case.program, room)
     statements = ["ARCHMODE S/370", "MAINSIZE 4", "NUMCPU 1", "OSTAILOR QUIET", "DEVTMAX -1"]
@@ -315,7 +317,9 @@ def play(module, case, room, preload):
         statements.append(f"019{number} {case.image[-1]} d{number} {words}")
     commands = ["loadcore it.bin 0", "restart", "pause 3", *case.commands, "pause 1", "quit"]
     (room / "it.cnf").write_text("\n".join(statements) + "\n")
-    (room / "it.rc").write_text("\n".join(commands).replace("MODULE", str(module)) + "\n")
+    script = "\n".join(commands).replace("MODULE", str(module)) + "\n"
+    script = re.sub(r"(?<=pause )\d+", lambda seconds: str(longer * int(seconds[0])), script)
+    (room / "it.rc").write_text(script)
     known = {**os.environ, "HERCULES_RC": "it.rc"}
     if case.refused:
         least, most = case.refused.split()
@@ -343,8 +347,12 @@ def check_cases(checks, module, room, cases, must_fail=None):
         run("cc", "-shared", "-fPIC", "-O2", "-o", preload, HERE / "c/refuse_sizes.c", "-ldl")
 
     def played(case):
-        with tempfile.TemporaryDirectory(dir=room) as folder:
-            return play(module, case, Path(folder), preload)
+        for longer in (1, LONGER):
+            with tempfile.TemporaryDirectory(dir=room) as folder:
+                lines = play(module, case, Path(folder), preload, longer)
+            if must_fail or by_disk(lines) == by_disk(case.lines):
+                break
+        return lines
 
     with concurrent.futures.ThreadPoolExecutor(4) as beside:
         for case, lines in zip(cases, beside.map(played, cases)):
