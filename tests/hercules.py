@@ -30,6 +30,8 @@ SEEDS, STARTS = range(1, 9), 20000
 MOST_SECONDS = 600
 # Hercules itself may crash if a disk is detached with a program in flight: so often it is tried
 CRASHES = 6
+# the message with which Hercules begins to end
+SHUTDOWN = "HHCIN900I"
 # how much longer the pauses are if what was logged isn't what comes, as on a machine that is busy
 LONGER = 4
 
@@ -331,7 +333,8 @@ def play(module, case, room, preload, longer=1):
             break
     told = r"HHCCV(?:00[1-46-9]|01[0-2]).*|PSW=\S+ \S+|HHCHD(?:017E|103I).*"
     told += "|HHCCV005I.*" if "HHCCV005I" in case.lines else ""
-    lines = re.findall(told, ran.output)
+    # a program that is still in flight ends now or later while Hercules shuts down
+    lines = re.findall(told, ran.output.partition(SHUTDOWN)[0])
     return "".join(re.sub(r", \d+ ns$", "", line) + "\n" for line in lines)
 
 
