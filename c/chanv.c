@@ -215,7 +215,7 @@ static enum chanv_answer hand_over(const struct chanv_job *job, const struct cha
 /* What the lent memory holds doesn't matter, so it isn't zeroed, and only the few pages that are
  * written cost anything. If there is none, the copy has no bytes, and the proved call returns
  * CHANV_MEMORY, unless the job has a fault that comes first. */
-enum chanv_answer chanv_take_in(const struct chanv_job *job, void *memory, size_t room, size_t *len,
+enum chanv_answer (chanv_take_in)(const struct chanv_job *job, void *memory, size_t room, size_t *len,
                                 struct chanv_program *program, struct chanv_needed *out)
 {
     static uint32_t none;

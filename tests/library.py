@@ -185,10 +185,17 @@ int ask(struct chanv_job job, struct chanv_area area, struct chanv_program it)
 TELLS_APART = "enum one { A }; enum other { B }; enum one f(void); int g(void) { return f() == B; }"
 
 
+# whether a compiler warns about a product that is taken for a truth: GCC does
+DOUBTS_PRODUCTS = "int f(void); int g(void) { return 2 * f() ? 3 : 4; }"
+
+
 def mistakes_of(call):
-    """The call whose answer is ignored, or compared with what isn't an answer, and with NULL where
-    it mustn't be, each with the warning that finds it."""
+    """The call whose answer is ignored, taken for a truth, or compared with what isn't an answer,
+    and with NULL where it mustn't be, each with the warning that finds it."""
     yield f"({call}, 0)", "unused-result"
+    yield f"{call} ? 1 : 2", "int-in-bool-context"
+    yield f"!{call}", "int-in-bool-context"
+    yield f"{call} && len == 0", "int-in-bool-context"
     yield f"{call} == CHANV_REASON_MISALIGNED", "enum-compare"
     yield f"{call} == CHANV_REFUSED_WRITES_OVER_KEPT", "enum-compare"
     for pointer in dict.fromkeys(re.findall(r"&[\w.]+", call)):
@@ -212,6 +219,11 @@ def check_mistakes(checks, library, folder):
     tells_apart = "[-Wenum-compare]" in run(*look, source).error
     if not tells_apart:
         checks.skip("answers compared with reasons", "the compiler doesn't tell constants apart")
+    source.write_text(DOUBTS_PRODUCTS)
+    doubts_products = "[-Wint-in-bool-context]" in run(*look, source).error
+    if not doubts_products:
+        checks.skip("answers taken for truths", "the compiler doesn't warn about products")
+    known = {"enum-compare": tells_apart, "int-in-bool-context": doubts_products}
     for mistake in null_rows():
         source.write_text(ASKING.format(mistake))
         ran = run(*look, source)
@@ -220,7 +232,7 @@ def check_mistakes(checks, library, folder):
         source.write_text(ASKING.format(f"{call} == CHANV_NO"))
         checks.expect(f"no fault with {call}", Ran(0), run(*look, source))
         for mistake, option in mistakes_of(call):
-            if option == "enum-compare" and not tells_apart:
+            if not known.get(option, True):
                 continue
             source.write_text(ASKING.format(mistake))
             ran = run(*look, source)

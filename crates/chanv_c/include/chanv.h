@@ -523,6 +523,23 @@ const char *chanv_answer_word(uint32_t answer);
 const char *chanv_refusal_word(uint32_t code);
 const char *chanv_entered_word(uint32_t entered);
 
+/* Yes is 0, so `if (chanv_verify(..))` would go on after a no. GCC warns about a product in such a
+ * place (-Wint-in-bool-context, part of -Wall), so in C each answer is one. Without the parentheses
+ * of its arguments, or in parentheses itself, a name is that of the function. */
+#if defined __GNUC__ && !defined __cplusplus
+#define CHANV_ANSWER(answer) ((enum chanv_answer)(1 * (int)(answer)))
+#define chanv_verify(...) CHANV_ANSWER(chanv_verify(__VA_ARGS__))
+#define chanv_list(...) CHANV_ANSWER(chanv_list(__VA_ARGS__))
+#define chanv_why(...) CHANV_ANSWER(chanv_why(__VA_ARGS__))
+#define chanv_text(...) CHANV_ANSWER(chanv_text(__VA_ARGS__))
+#define chanv_take_in(...) CHANV_ANSWER(chanv_take_in(__VA_ARGS__))
+#define chanv_check_kept(...) CHANV_ANSWER(chanv_check_kept(__VA_ARGS__))
+#define chanv_check_start(...) CHANV_ANSWER(chanv_check_start(__VA_ARGS__))
+#define chanv_check_write(...) CHANV_ANSWER(chanv_check_write(__VA_ARGS__))
+#define chanv_make_prefix(...) CHANV_ANSWER(chanv_make_prefix(__VA_ARGS__))
+#define chanv_find(...) CHANV_ANSWER(chanv_find(__VA_ARGS__))
+#endif
+
 #ifdef __cplusplus
 }
 #endif
