@@ -58,8 +58,8 @@ static uint32_t take_in(struct taken *taken, const struct chanv_job *job)
     return answer;
 }
 
-/* Lets no program that starts from now on store over the prefixes. `area` stays where it is. It is
- * called before the first start. */
+/* Lets no program that starts from now on store over the prefixes: the jobs here may lend more than
+ * users own. `area` stays where it is. It is called before the first start. */
 static void guard_prefixes(const struct chanv_area *area)
 {
     chanv_row_keeping(area, &in_flight[UNITS]);
