@@ -35,23 +35,23 @@ ENDS = bytes.fromhex("0300000020000001") * 4
 # devices that write to areas; their units come after those of the programs
 DEVICES = range(UNITS, UNITS + 2)
 
-ASKED = "may_start(job, program, self._table.values())"
-MAY = "may_write(area, self._table.values())"
+ASKED = "may_start(job, program, self._table)"
+MAY = "may_write(area, self._table)"
 LASTING = f"{MAY}\n            if permission:\n                self._table"
 GRANTS = ("mask", "no-cylinder", "not-fetchable", "not-storable")
 # takes certain refusals for a yes
 IGNORING = f"(lambda it: Permission() if it.refusal in {{}} else it)({ASKED})"
 # a duty, the text that does it, and the text in its place
 CARELESS = [
-    ("the look at the unit", "if unit in self._table:", "if unit is None:"),
+    ("the look at the unit", "if self._table.has(unit):", "if unit is None:"),
     ("the question before a start", ASKED, "Permission()"),
     ("the table", ASKED, "may_start(job, program, [])"),
     ("the grants", ASKED, IGNORING.format(GRANTS)),
     ("the comparison", ASKED, IGNORING.format(("changed",))),
-    ("the row of a program", "self._table[unit] = program", "self._table[unit] = keeping()"),
+    ("the row of a program", "enter(unit, program)", "enter(unit, keeping())"),
     ("the question before a write", "if permission:\n                put()", "put()"),
     ("the question before a lasting write", LASTING, LASTING.replace(MAY, "Permission()")),
-    ("the row of a lasting write", "= storing(area)", "= storing()"),
+    ("the row of a lasting write", "storing(area))", "storing())"),
     ("the user's own storage", "yield keeps_only(program, own)", "yield Permission()"),
     ("the look at what is guarded", "may_write(area, [program])", "Permission()"),
     ("the row of what is guarded", "keeping(*self._guarded)", "keeping()"),

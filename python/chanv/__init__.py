@@ -537,8 +537,50 @@ def _made_of(program: Program) -> _c.Program:
     return made
 
 
+class _Flying(Collection[Program]):
+    """Programs in flight by the units on which they are, in rows that C reads where they are. A row
+    of zeros is nobody's."""
+
+    def __init__(self) -> None:
+        self.rows = (_c.Program * 8)()
+        self._free = [*reversed(range(8))]
+        self._by_unit: dict[int | None, tuple[int, Program]] = {}
+
+    def __contains__(self, program: object) -> bool:
+        return any(it is program for it in self)
+
+    def __iter__(self) -> Iterator[Program]:
+        return (program for _, program in self._by_unit.values())
+
+    def __len__(self) -> int:
+        return len(self._by_unit)
+
+    def has(self, unit: int) -> bool:
+        return unit in self._by_unit
+
+    def enter(self, unit: int | None, program: Program) -> None:
+        made = _made_of(program)
+        if not self._free:
+            count = len(self.rows)
+            self.rows = (_c.Program * (2 * count))(*self.rows)
+            self._free = [*reversed(range(count, 2 * count))]
+        row = self._free.pop()
+        self.rows[row] = made
+        self._by_unit[unit] = row, program  # the row refers to the program's lists
+
+    def leave(self, unit: int | None) -> None:
+        row, _ = self._by_unit.pop(unit)
+        self.rows[row] = _c.Program()
+        self._free.append(row)
+
+    def unit_at(self, row: int) -> int | None:
+        return next(unit for unit, (it, _) in self._by_unit.items() if it == row)
+
+
 def _programs(programs: Collection[Program | None]) -> Any:
     """The programs in a row, with zeros for None."""
+    if isinstance(programs, _Flying):
+        return programs.rows
     if isinstance(programs, Iterator):
         raise TypeError("the programs in flight are an iterator; hand in a list or another table")
     made = [_c.Program() if it is None else _made_of(it) for it in programs]

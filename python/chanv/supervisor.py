@@ -5,7 +5,7 @@ from dataclasses import replace
 from threading import Lock
 from weakref import WeakValueDictionary
 
-from . import Answer, Error, Job, NoAnswer, Pairs, Permission, Program
+from . import Answer, Error, Job, NoAnswer, Pairs, Permission, Program, _Flying
 from . import keeping, keeps_only, may_start, may_write, needs, storing
 
 __all__ = ["Refused", "Supervisor"]
@@ -75,7 +75,8 @@ class Supervisor:
         self._lock = Lock()
         self._taken_in: WeakValueDictionary[int, Program] = WeakValueDictionary()  # by their ids
         # by unit, and what is guarded
-        self._table: dict[int | None, Program] = {None: keeping(*self._guarded)}
+        self._table = _Flying()
+        self._table.enter(None, keeping(*self._guarded))
 
     def take_in(self, job: Job, own: Pairs | None = None) -> Program:
         """Takes the job's program in, over storage that anything may write; `own` is the storage of
@@ -95,20 +96,20 @@ class Supervisor:
         if self._taken_in.get(id(program)) is not program:
             raise ValueError("this supervisor didn't take the program in")
         with self._lock:
-            if unit in self._table:
+            if self._table.has(unit):
                 return Permission("unit-in-use")
-            permission = may_start(job, program, self._table.values())
+            permission = may_start(job, program, self._table)
             if permission:
-                self._table[unit] = program
+                self._table.enter(unit, program)
                 if not self._start_io(unit, job):
-                    del self._table[unit]
+                    self._table.leave(unit)
                     return Permission("not-accepted")
             return self._by_unit(permission)
 
     def write(self, area: Sequence[int], put: Callable[[], object]) -> Permission:
         """Calls `put`, which writes only to the area, if others may write there now."""
         with self._lock:
-            permission = may_write(area, self._table.values())
+            permission = may_write(area, self._table)
             if permission:
                 put()
             return self._by_unit(permission)
@@ -116,18 +117,18 @@ class Supervisor:
     def begin_write(self, unit: int, area: Sequence[int]) -> Permission:
         """Lets a unit, such as a tape, write to an area at any time until it leaves."""
         with self._lock:
-            if unit in self._table:
+            if self._table.has(unit):
                 return Permission("unit-in-use")
-            permission = may_write(area, self._table.values())
+            permission = may_write(area, self._table)
             if permission:
-                self._table[unit] = storing(area)
+                self._table.enter(unit, storing(area))
             return self._by_unit(permission)
 
     def leave(self, unit: int) -> None:
         """The unit is free from now on: its program makes no further step, or it writes no further
         byte, and its last store is visible. It raises KeyError if the unit was free."""
         with self._lock:
-            del self._table[unit]
+            self._table.leave(unit)
 
     def _refusals(self, program: Program, own: Pairs) -> Iterator[Permission]:
         yield keeps_only(program, own)
@@ -141,7 +142,7 @@ class Supervisor:
     def _by_unit(self, permission: Permission) -> Permission:
         if permission.program is None:
             return permission
-        return replace(permission, program=[*self._table][permission.program])
+        return replace(permission, program=self._table.unit_at(permission.program))
 
 
 def _settled(job: Job) -> Program:
