@@ -16,6 +16,7 @@ import re
 import shutil
 import sys
 import tempfile
+from array import array
 from ctypes import byref, c_size_t
 from pathlib import Path
 
@@ -283,15 +284,25 @@ def check_storage(checks, chanv, judging):
         file.write(held)
         file.flush()
         with mmap.mmap(file.fileno(), 0, access=mmap.ACCESS_READ) as mapped:
-            for storage in (held, bytearray(held), memoryview(held), mapped):
+            words = array("I", held)
+            for storage in (held, bytearray(held), memoryview(held), mapped, words):
                 for copy in (True, False):
                     asked = dataclasses.replace(job, storage=storage, copy=copy)
                     name = f"{type(storage).__name__}, copy={copy}"
                     checks.expect(name, "yes", str(chanv.verify(asked)))
                     checks.expect(f"find in {name}", [0x800], chanv.find(storage, copy=copy))
-    number = dataclasses.replace(job, storage=4096)
-    for ask in (lambda: chanv.verify(number), lambda: chanv.needs(number), lambda: chanv.find(8)):
-        checks.expect("storage that is a number", "TypeError", error_of(ask))
+    program = chanv.needs(job)
+    apart = memoryview(bytearray(2 * len(held)))[::2]
+    for name, storage in (("a number", 8), ("every other byte", apart)):
+        for copy in (True, False):
+            asked = dataclasses.replace(job, storage=storage, copy=copy)
+            for ask in (
+                lambda: chanv.verify(asked),
+                lambda: chanv.needs(asked),
+                lambda: chanv.may_start(asked, program, []),
+                lambda: chanv.find(storage, copy=copy),
+            ):
+                checks.expect(f"storage that is {name}", "TypeError", error_of(ask))
     for device in (0x10000 + 2314, -1):
         found = error_of(lambda: chanv.find(held, device))
         checks.expect(f"find on {device}", "OverflowError", found)

@@ -32,6 +32,7 @@ library's name. It is loaded by the first call, which raises WrongLibrary if the
 version.
 """
 
+from array import array
 from collections.abc import Collection, Iterator, Sequence
 from contextlib import contextmanager
 from ctypes import Array, byref, c_char_p, c_size_t, c_uint16, c_uint32, create_string_buffer
@@ -71,7 +72,7 @@ __all__ = [
     "why",
 ]
 
-Storage = Union[bytes, bytearray, memoryview, mmap]
+Storage = Union[bytes, bytearray, memoryview, mmap, "array[Any]"]
 Pairs = Sequence[Sequence[int]]
 
 # the values of each reason, by the names of chanv.h

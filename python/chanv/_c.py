@@ -190,8 +190,8 @@ _release_buffer.restype = None
 
 def quiet(storage: Any) -> bytes:
     """Bytes, which nothing changes: a copy of storage, unless it is `bytes`. An object without
-    bytes, such as a number, is a TypeError."""
-    return storage if isinstance(storage, bytes) else bytes(memoryview(storage))
+    bytes in a row, such as a number or every other byte of a buffer, is a TypeError."""
+    return storage if isinstance(storage, bytes) else bytes(memoryview(storage).cast("B"))
 
 
 def never_changes(storage: Any) -> bool:
@@ -201,9 +201,9 @@ def never_changes(storage: Any) -> bool:
 
 @contextmanager
 def bytes_of(storage: Any) -> Iterator[Bytes]:
-    """The memory of an object with bytes, as long as the block lasts; without a copy."""
+    """The memory of an object with bytes in a row, as long as the block lasts; without a copy."""
     buffer = _Buffer()
-    _get_buffer(storage, byref(buffer), 0)
+    _get_buffer(memoryview(storage).cast("B"), byref(buffer), 0)
     try:
         yield Bytes(buffer.at, buffer.len)
     finally:
