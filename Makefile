@@ -27,7 +27,8 @@ LIBRARIES = ccw_core ckd_core chan_areas chan_walk chan_needs chan_why chan_args
 DECK ?= examples/changes-argument.deck
 
 .PHONY: run libraries $(LIBRARIES) test audit proofs mutants unit_tests lib link install uninstall
-.PHONY: try rustc install-rustc dist fuzz coq table hercules can_prove can_link can_test can_coq can_rustc
+.PHONY: try rustc install-rustc dist fuzz coq table hercules
+.PHONY: can_prove can_link can_test can_coq can_rustc
 
 run: libraries
 	cd crates/chanv && rt run --jobs $(JOBS) < stdin
@@ -185,7 +186,7 @@ install:
 	install -D -m 644 docs/chanv.bash "$(TO)/share/bash-completion/completions/chanv"
 	install -D -m 644 $(OUT)/chanv.h "$(TO)/include/chanv.h"
 	install -D -m 644 $(OUT)/libchanv.a "$(TO_LIB)/libchanv.a"
-	install -D $(OUT)/libchanv.so.$(VERSION) "$(TO_LIB)/libchanv.so.$(VERSION)"
+	install -D -m 644 $(OUT)/libchanv.so.$(VERSION) "$(TO_LIB)/libchanv.so.$(VERSION)"
 	ln -sf libchanv.so.$(VERSION) "$(TO_LIB)/$(SONAME)"
 	ln -sf $(SONAME) "$(TO_LIB)/libchanv.so"
 	install -d "$(TO)/share/chanv/python/chanv"
@@ -202,6 +203,8 @@ install:
 	  docs/chanv.pc.in > \
 	  "$(TO_LIB)/pkgconfig/chanv.pc"
 	chmod 644 "$(TO_LIB)/pkgconfig/chanv.pc"
+	@test -n "$(DESTDIR)" || \
+	  echo "make install: run ldconfig as root, so that programs find the library"
 
 # Installs what `make rustc` built under the same names, so that the proved library can take its
 # place; the program, the library's version and chanv.pc say that it isn't proved.

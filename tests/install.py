@@ -55,9 +55,10 @@ STAGED = {
     "share/chanv/python/chanv/supervisor.py": READ,
     "share/man/man1/chanv.1": READ,
 }
+LDCONFIG = "make install: run ldconfig as root, so that programs find the library\n"
 STAGED_LIBRARIES = {
     "libchanv.a": READ,
-    f"libchanv.so.{version()}": RUNS,
+    f"libchanv.so.{version()}": READ,
     f"libchanv.so.{version().rpartition('.')[0]}": LINK,
     "libchanv.so": LINK,
     "pkgconfig/chanv.pc": READ,
@@ -162,7 +163,7 @@ def check_targets(checks, folder, program, library):
         wanted = f"make install: no {first}; run {builds} first\n"
         checks.expect_that(f"{target} says what isn't built", wanted in ran.error, ran)
         ran = run("make", "-s", "-C", ROOT, target, to, *(it.format(built) for it in GIVEN[target]))
-        checks.expect(f"make {target} of other files", Ran(0), ran)
+        checks.expect(f"make {target} of other files", Ran(0, LDCONFIG), ran)
         page = text_of(folder / target / "lib/pkgconfig/chanv.pc").splitlines()
         about = f"{target}, its chanv.pc"
         checks.expect_that(about, f"{description}{besides}" in page, page)
@@ -188,7 +189,9 @@ def check_embedding(checks, chanv, library, folder):
 def check_library_folder(checks, folder):
     """The libraries and chanv.pc in a folder that isn't lib/ under the prefix."""
     to, words = folder / "apart", f"LIBDIR={folder / 'apart/lib/x86_64'}"
-    checks.expect("make install with a LIBDIR", 0, make(checks, "install", to, words).status)
+    ran = make(checks, "install", to, words)
+    checks.expect("make install with a LIBDIR", 0, ran.status)
+    checks.expect_that("make install names ldconfig", LDCONFIG in ran.output, ran)
     there = to / "lib/x86_64"
     checks.expect_that("its archive", (there / "libchanv.a").is_file(), "not there")
     page = text_of(there / "pkgconfig/chanv.pc")
@@ -216,6 +219,7 @@ def check_stage(checks, folder):
         words = [f"DESTDIR={stage}", *more]
         ran = make(checks, "install", prefix, *words, umask=0o077)
         checks.expect(f"make install into a stage, {libraries}", 0, ran.status)
+        checks.expect_that("a stage wants no ldconfig", LDCONFIG not in ran.output, ran)
         checks.expect("what comes to the prefix itself", False, prefix.exists())
         to = stage / prefix.relative_to("/")
         modes = {it: it.lstat().st_mode for it in stage.rglob("*")}
