@@ -2,7 +2,7 @@
 -- the job's mask, and goes on to the program in the same chain. A mask lasts only until its chain
 -- ends, and the arm is where the last program left it.
 use Rattle.std.specs.Prelude.{◌≡◌, ℕ, ◌+◌, ◌<◌, ◌≤◌, ◌==◌, true, List, [], ◌∷◌, ◌++◌, length}
-use Rattle.std.specs.Prelude.{if◌then◌else◌, Option, None, Some}
+use Rattle.std.specs.Prelude.{if◌then◌else◌}
 use Rattle.byteorder.specs.Endian.{big_bytes}
 use Rattle.ccw_core.specs.Ccw.{Fields, bytes_of}
 use Rattle.ccw_core.specs.Storage.{is_aligned}

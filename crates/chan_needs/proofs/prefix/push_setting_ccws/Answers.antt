@@ -1,5 +1,5 @@
 -- One CCW after another.
-use Rattle.std.proofs.Common.{◌≡◌, ◌==◌, ◌++◌, false, append_assoc, rules}
+use Rattle.std.proofs.Common.{◌≡◌, ◌==◌, false, append_assoc, rules}
 use Rattle.chan_needs.proofs.prefix.push_setting_ccws.Goals as goal
 
 pub returns : goal.returns
