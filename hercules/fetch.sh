@@ -28,5 +28,6 @@ fetch() {
 rm -rf "$to" && mkdir -p "$to"
 tar xzf "${2:-$(echo "$room"/hercules_*.orig.tar.gz)}" -C "$to" --strip-components=1
 cd "$to"
-./configure > "$room/log" 2>&1 || { tail "$room/log" >&2; exit 1; }
+# Hercules has no C++, but its configure looks for a preprocessor of it
+CXXCPP="${CXXCPP:-gcc -E -x c}" ./configure > "$room/log" 2>&1 || { tail "$room/log" >&2; exit 1; }
 echo "the headers of Hercules are in $to"
