@@ -43,7 +43,7 @@ GRANTS = ("mask", "no-cylinder", "not-fetchable", "not-storable")
 IGNORING = f"(lambda it: Permission() if it.refusal in {{}} else it)({ASKED})"
 # a duty, the text that does it, and the text in its place
 CARELESS = [
-    ("the look at the unit", "if self._table.has(unit):", "if unit is None:"),
+    ("the look at the unit", "if unit in self._table:", "if unit is None:"),
     ("the question before a start", ASKED, "Permission()"),
     ("the table", ASKED, "may_start(job, program, [])"),
     ("the grants", ASKED, IGNORING.format(GRANTS)),

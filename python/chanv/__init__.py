@@ -74,6 +74,8 @@ __all__ = [
 
 Storage = Union[bytes, bytearray, memoryview, mmap, "array[Any]"]
 Pairs = Sequence[Sequence[int]]
+# what is in flight: programs, with None for nobody, or the table of a supervisor
+_Table = Union[Collection["Program | None"], "_Flying"]
 
 # the values of each reason, by the names of chanv.h
 _VALUES = {
@@ -394,7 +396,7 @@ def keeps_only(program: Program, areas: Pairs) -> Permission:
     return _permission(out)
 
 
-def may_start(job: Job, program: Program, in_flight: Collection[Program | None]) -> Permission:
+def may_start(job: Job, program: Program, in_flight: _Table) -> Permission:
     """Whether a program may start under a job beside those in flight; None in the list is nobody.
 
     It is `chanv_check_start`, and a yes has the premises that chanv.h lists. An iterator is no list
@@ -412,7 +414,7 @@ def may_start(job: Job, program: Program, in_flight: Collection[Program | None])
     return _permission(out)
 
 
-def may_write(area: Sequence[int], in_flight: Collection[Program | None]) -> Permission:
+def may_write(area: Sequence[int], in_flight: _Table) -> Permission:
     """Whether others may write to an area, a pair of start and length, now.
 
     It is `chanv_check_write`; the list is that of `may_start`.
@@ -538,7 +540,7 @@ def _made_of(program: Program) -> _c.Program:
     return made
 
 
-class _Flying(Collection[Program]):
+class _Flying:
     """Programs in flight by the units on which they are, in rows that C reads where they are. A row
     of zeros is nobody's."""
 
@@ -547,16 +549,7 @@ class _Flying(Collection[Program]):
         self._free = [*reversed(range(8))]
         self._by_unit: dict[int | None, tuple[int, Program]] = {}
 
-    def __contains__(self, program: object) -> bool:
-        return any(it is program for it in self)
-
-    def __iter__(self) -> Iterator[Program]:
-        return (program for _, program in self._by_unit.values())
-
-    def __len__(self) -> int:
-        return len(self._by_unit)
-
-    def has(self, unit: int) -> bool:
+    def __contains__(self, unit: int) -> bool:
         return unit in self._by_unit
 
     def enter(self, unit: int | None, program: Program) -> None:
@@ -578,7 +571,7 @@ class _Flying(Collection[Program]):
         return next(unit for unit, (it, _) in self._by_unit.items() if it == row)
 
 
-def _programs(programs: Collection[Program | None]) -> Any:
+def _programs(programs: _Table) -> Any:
     """The programs in a row, with zeros for None."""
     if isinstance(programs, _Flying):
         return programs.rows

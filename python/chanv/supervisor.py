@@ -96,7 +96,7 @@ class Supervisor:
         if self._taken_in.get(id(program)) is not program:
             raise ValueError("this supervisor didn't take the program in")
         with self._lock:
-            if self._table.has(unit):
+            if unit in self._table:
                 return Permission("unit-in-use")
             permission = may_start(job, program, self._table)
             if permission:
@@ -117,7 +117,7 @@ class Supervisor:
     def begin_write(self, unit: int, area: Sequence[int]) -> Permission:
         """Lets a unit, such as a tape, write to an area at any time until it leaves."""
         with self._lock:
-            if self._table.has(unit):
+            if unit in self._table:
                 return Permission("unit-in-use")
             permission = may_write(area, self._table)
             if permission:

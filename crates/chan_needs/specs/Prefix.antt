@@ -42,13 +42,9 @@ prefix_at a j =
     setting_ccws a j ++ bytes_of (transfer_to j.start)
     ++ taken_by_prefix (first_cylinder (extents_of j)) j.mask
 
--- how many bytes it has
-abbrev pub prefix_len : Job → ℕ
-prefix_len j = if j.mask == 0 then 24 else 32
-
 -- it can stand there: the address is a multiple of 8, and the prefix and the program's start lie in
 -- storage
 abbrev pub CanStandAt : ℕ → Job → Type 0
 CanStandAt a j =
-    (is_aligned a ≡ true) × (a + prefix_len j ≤ length (storage_of j))
+    (is_aligned a ≡ true) × (a + length (prefix_at a j) ≤ length (storage_of j))
     × (j.start < length (storage_of j))

@@ -1,13 +1,13 @@
 //! The prefix through which a supervisor starts a program.
 
-ghost use Rattle.std.specs.Prelude.{◌≡◌, ◌<◌, ◌++◌, ◌↔◌, IfOk, IsTrue, MatchOption, OnOk};
+ghost use Rattle.std.specs.Prelude.{◌≡◌, ◌<◌, ◌++◌, ◌↔◌, ℕ, length, IfOk, IsTrue, MatchOption};
+ghost use Rattle.std.specs.Prelude.{OnOk};
 ghost use Rattle.ccw_core.specs.Ccw as ccw;
 ghost use Rattle.ccw_core.specs.declared.ccw.TheConstants.{STORAGE_LIMIT};
 ghost use Rattle.chan_walk.specs.Alarm.{first_cylinder};
 ghost use Rattle.chan_walk.specs.Job.{extents_of};
 ghost use Rattle.chan_needs.specs.Prefix as specs;
-ghost use Rattle.chan_needs.specs.Prefix.{CanStandAt, prefix_len, setting_ccws};
-ghost use Rattle.chan_needs.specs.Prefix.{taken_by_prefix};
+ghost use Rattle.chan_needs.specs.Prefix.{CanStandAt, setting_ccws, taken_by_prefix};
 
 use byteorder::{BigEndian, ByteOrder};
 use ccw_core::Ccw;
@@ -58,7 +58,7 @@ fn can_stand_at(address: u32, job: &Job) -> bool
 
 /// How many bytes the job's prefix has.
 fn prefix_len(job: &Job) -> u32
-    ensures { result ≡ prefix_len job.now }
+    ensures { (a : ℕ) → length (specs.prefix_at a job.now) ≡ result }
 {
     if job.mask.byte() == 0 { 24 } else { 32 }
 }

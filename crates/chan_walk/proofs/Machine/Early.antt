@@ -12,13 +12,13 @@ use Rattle.chan_walk.proofs.Machine.Waiting.{WaitsSpared}
 use Rattle.chan_walk.proofs.Machine.Yes.{guarded_stays, stays_reachable}
 
 -- storage of the same length with the same bytes is the same
-same_bytes : (s t : List ℕ) → length s ≡ length t → ((b : ℕ) → byte s b ≡ byte t b) → s ≡ t
-same_bytes [] [] long each = refl
-same_bytes [] (y ∷ t) long each = absurd (omega (arith, long))
-same_bytes (x ∷ s) [] long each = absurd (omega (arith, long))
-same_bytes (x ∷ s) (y ∷ t) long each =
+equal_by_bytes : (s t : List ℕ) → length s ≡ length t → ((b : ℕ) → byte s b ≡ byte t b) → s ≡ t
+equal_by_bytes [] [] long each = refl
+equal_by_bytes [] (y ∷ t) long each = absurd (omega (arith, long))
+equal_by_bytes (x ∷ s) [] long each = absurd (omega (arith, long))
+equal_by_bytes (x ∷ s) (y ∷ t) long each =
     let first : x ≡ y = each 0 in
-    let others : s ≡ t = same_bytes s t (omega (arith, long)) (λ b. each (suc b)) in
+    let others : s ≡ t = equal_by_bytes s t (omega (arith, long)) (λ b. each (suc b)) in
     cc
 
 -- ---- events store over a byte, or they don't
@@ -73,7 +73,7 @@ module _ (j : Job) (v : IsVerdict j Yes) where
   -- a CCW that was fetched early is the one that is there
   is_there : (p : Place) (early m : Moment) (s : List ℕ) → IsReachable j p → IsKept early → IsKept m
       → IsWithEarlyCcw p.address early m s → s ≡ m.storage
-  is_there p early m s reached then now f = same_bytes s m.storage f.same_length each
+  is_there p early m s reached then now f = equal_by_bytes s m.storage f.same_length each
     where
       in_ccw : (b : ℕ) → p.address ≤ b → b < p.address + 8 → IsGuarded j b
       in_ccw b from below = inl (record {
@@ -95,7 +95,7 @@ module _ (j : Job) (v : IsVerdict j Yes) where
   early_step_is_step : (ms : List Moment) (m n : Moment) → AllByRecursion IsKept (m ∷ ms) → IsAtReachable j m.stage → StepsEarly ms m n → Steps m n
   early_step_is_step ms m n kept at s =
       subst (λ stage. StepFrom m.storage m.arm m.mask stage n.events n.storage n.arm n.mask n.stage) (sym s.stage)
-      (subst (λ t. Step m.storage m.arm m.mask s.place s.gathered n.events t n.arm n.mask n.stage) (sym (same_bytes n.storage s.stored long each)) now)
+      (subst (λ t. Step m.storage m.arm m.mask s.place s.gathered n.events t n.arm n.mask n.stage) (sym (equal_by_bytes n.storage s.stored long each)) now)
     where
       fetched : s.fetched ≡ m.storage
       fetched = is_there s.place s.early m s.fetched (subst (λ stage. IsAtReachable j stage) s.stage at)
