@@ -5,13 +5,12 @@
 # to where users expect it, the libraries to LIBDIR, and builds nothing; `make uninstall` removes it.
 # `make table` prints the contracts. `make rustc` needs no kit: from the same sources plain rustc
 # builds program and library in out/not_proved, with nothing proved, and `make install-rustc` copies
-# them. `make hercules` builds the module for the emulator over one of the two libraries. `make coq`
-# needs no kit either: it proves the laws again in Coq, and builds a second verifier, which is proved
-# there.
+# them. `make static`, `make deb` and `make wheel` pack what is proved, `make static-rustc` and its like
+# what isn't, and `make dist` its sources. `make hercules` builds the module for the emulator over one
+# of the two libraries. `make coq` needs no kit either: it proves the laws again in Coq, and builds a
+# second verifier, which is proved there.
 
-PREFIX ?= /usr/local
-LIBDIR ?= $(PREFIX)/lib
-VERSION = 0.8.0
+VERSION = 1.0.0
 
 # How many processors a proof may use; each takes up to 1.5 GB of memory.
 JOBS ?= $(shell nproc)
@@ -26,16 +25,16 @@ LIBRARIES = ccw_core ckd_core chan_areas chan_walk chan_needs chan_why chan_args
 # The deck that `make try` explains the verdict on.
 DECK ?= examples/changes-argument.deck
 
-.PHONY: run libraries $(LIBRARIES) test audit proofs mutants unit_tests lib link install uninstall
-.PHONY: try rustc install-rustc dist fuzz coq table hercules
-.PHONY: can_prove can_link can_test can_coq can_rustc
+.PHONY: run libraries $(LIBRARIES) test audit proofs mutants unit_tests lib link install uninstall share
+.PHONY: try rustc install-rustc static static-rustc dist deb deb-rustc wheel wheel-rustc fuzz coq table hercules
+.PHONY: can_prove can_link can_test can_coq can_rustc can_deb
 
 run: libraries
 	cd crates/chanv && rt run --jobs $(JOBS) < stdin
 	crates/chanv/out/chanv why examples/changes-itself.deck || test $$? -eq 1
 
 # What is missing is named at once, and not after a quarter of an hour.
-can_prove can_link can_test can_coq can_rustc:
+can_prove can_link can_test can_coq can_rustc can_deb:
 	@KIT='$(KIT)' CC='$(CC)' CROSS='$(CROSS)' tests/tools $(@:can_%=%)
 
 # One at a time: while rt is at work on a crate, it lets nobody else at those that it stands on.
@@ -64,9 +63,9 @@ try: can_prove
 
 # Builds program and library by plain rustc, with nothing proved. Rust's crates are Debian's, or
 # come from crates.io; rustc/README.md says more. TARGET names another machine as rustc names it, and
-# CROSS begins the names of its C compiler and its binutils.
+# CROSS begins the names of its C compiler and its binutils, which leave out the version of an ARM.
 TARGET =
-CROSS = $(addsuffix -,$(subst -unknown,,$(TARGET)))
+CROSS = $(addsuffix -,$(patsubst armv7-%,arm-%,$(subst -unknown,,$(TARGET))))
 NOT_PROVED = out/not_proved$(addprefix /,$(TARGET))
 PROFILE = release
 BY_CARGO = out/rustc/target/$(addsuffix /,$(TARGET))$(PROFILE)
@@ -75,19 +74,35 @@ CC = $(CROSS)gcc
 export CARGO_TARGET_$(shell echo $(TARGET) | tr a-z- A-Z_)_LINKER = $(CC)
 endif
 
-# The library's groups of sections are dissolved: if a program has a group of the same name, the
-# linker would drop the library's. What Rust's own library has for debuggers is dropped.
 rustc: can_rustc
 	rustc/strip.py out/rustc
 	cd out/rustc && cargo build --quiet --profile $(PROFILE) -p chanv -p chanv_c \
 	  $(addprefix --target ,$(TARGET))
 	$(MAKE) --no-print-directory link OUT=$(NOT_PROVED) \
-	  PARTS="--strip-debug --force-group-allocation $(BY_CARGO)/libchanv_c.a"
+	  PARTS="$(BY_RUSTC) $(BY_CARGO)/libchanv_c.a"
 	cp $(BY_CARGO)/chanv-rustc $(NOT_PROVED)/chanv
 	@echo "chanv and its library are in $(NOT_PROVED), and nothing of them is proved"
 
-# Packs what plain rustc compiles with the crates of Debian that it uses. In the folder of the
-# archive `cargo install --offline --path chanv` builds the program.
+# One program that needs no shared library, by plain rustc, and what `make` proved, linked by the
+# system's linker, because the kit's links no C library in.
+static-rustc: PROFILE = static
+static-rustc: can_rustc
+	rustc/strip.py out/rustc
+	cd out/rustc && cargo rustc --quiet --profile $(PROFILE) -p chanv --bin chanv-rustc \
+	  $(addprefix --target ,$(TARGET)) -- -C target-feature=+crt-static
+	mkdir -p $(NOT_PROVED)
+	cp $(BY_CARGO)/chanv-rustc $(NOT_PROVED)/chanv-static
+	@echo "$(NOT_PROVED)/chanv-static needs no shared library, and nothing of it is proved"
+
+static: can_link
+	@test -f $(PROGRAM).o || { echo "make static: no $(PROGRAM).o; run make first" >&2; exit 1; }
+	mkdir -p $(OUT)
+	$(CC) -static -s -o $(OUT)/chanv-static $(PROGRAM).o \
+	  "$$(dirname "$$(rt doc)")/c/libos_c.a" "$$(dirname "$$(rt doc)")/c/liblibc_c.a"
+	@echo "$(OUT)/chanv-static needs no shared library"
+
+# Packs what `make install` installs, as sources with Rust's crates. In the folder of the archive
+# `make` builds it by cargo and a C compiler alone, as the README there says.
 DIST = out/chanv-$(VERSION)-not-proved.tar.gz
 dist:
 	mkdir -p out
@@ -137,58 +152,26 @@ lib: can_link
 	cd crates/chanv_c && rt lib --jobs $(JOBS)
 	$(MAKE) --no-print-directory link
 
-# Where the library goes, and the parts that it is linked from beside the C file.
-OUT = out
+# The header and the C file of the library, and the parts that it is linked from besides.
+HEADER = crates/chanv_c/include/chanv.h
+C_FILE = c/chanv.c
 PARTS = --whole-archive crates/chanv_c/out/libchanv_c.a --no-whole-archive \
   "$$(dirname "$$(rt doc)")/c/liblibc_c.a"
 
-# By itself for the gate, which has proved and built the library of Rattle by then.
-link:
-	mkdir -p $(OUT)
-	cp crates/chanv_c/include/chanv.h $(OUT)/chanv.h
-	$(CC) -std=c99 -O2 -fPIC $(CFLAGS) -I$(OUT) -c -o $(OUT)/chanv_c.o c/chanv.c
-	$(CROSS)ld -r -o $(OUT)/chanv.o $(OUT)/chanv_c.o $(PARTS)
-	$(CROSS)objcopy --wildcard --keep-global-symbol='chanv_*' $(BITCODE) $(OUT)/chanv.o
-	rm -f $(OUT)/libchanv.*
-	$(CROSS)ar rcs $(OUT)/libchanv.a $(OUT)/chanv.o
-	$(CC) -shared $(HARDENED) -Wl,-soname,$(SONAME) -o $(OUT)/libchanv.so.$(VERSION) $(OUT)/chanv.o
-
-# What Rust's own library has for LLVM, at which `ar` fails.
-BITCODE = --remove-section=.llvmbc --remove-section=.llvmcmd
-
-# Each symbol is bound when the library is loaded, so that its tables can be read-only then, and the
-# stack of the program stays one from which nothing runs.
-HARDENED = -Wl,-z,defs -Wl,-z,relro,-z,now -Wl,-z,noexecstack
-
-# The name by which programs ask for the shared library. While the first number is 0, structs may
-# change with the second, so the name has both.
-SONAME = libchanv.so.$(basename $(VERSION))
-
 PROGRAM = crates/chanv/out/chanv
-BUILT = $(PROGRAM) $(OUT)/libchanv.a $(OUT)/libchanv.so.$(VERSION) $(OUT)/chanv.h
-# what builds them, and what the descriptions say of them besides
 BUILDS = make and make lib
 BESIDES =
+PC_FILE = docs/chanv.pc.in
 
 # What the pages link to outside docs/, and the decks and programs that they name. README makes
 # examples/dump.deck.
 SHOWN = $(filter-out %/dump.deck,$(wildcard examples/*.* examples/*/*.*)) \
   hercules/Makefile $(wildcard hercules/*.*) \
   bench/README.md coq/README.md python/README.md rustc/README.md
-TO = $(DESTDIR)$(PREFIX)
-TO_LIB = $(DESTDIR)$(LIBDIR)
 
-install:
-	@for built in $(BUILT); do test -f $$built || \
-	  { echo "make install: no $$built; run $(BUILDS) first" >&2; exit 1; }; done
-	install -D $(PROGRAM) "$(TO)/bin/chanv"
+share:
 	install -D -m 644 docs/chanv.1 "$(TO)/share/man/man1/chanv.1"
 	install -D -m 644 docs/chanv.bash "$(TO)/share/bash-completion/completions/chanv"
-	install -D -m 644 $(OUT)/chanv.h "$(TO)/include/chanv.h"
-	install -D -m 644 $(OUT)/libchanv.a "$(TO_LIB)/libchanv.a"
-	install -D -m 644 $(OUT)/libchanv.so.$(VERSION) "$(TO_LIB)/libchanv.so.$(VERSION)"
-	ln -sf libchanv.so.$(VERSION) "$(TO_LIB)/$(SONAME)"
-	ln -sf $(SONAME) "$(TO_LIB)/libchanv.so"
 	install -d "$(TO)/share/chanv/python/chanv"
 	install -m 644 python/chanv/*.py python/chanv/py.typed "$(TO)/share/chanv/python/chanv"
 	install -d "$(TO)/share/doc/chanv/docs"
@@ -197,14 +180,6 @@ install:
 	@for shown in $(SHOWN); do \
 	  install -D -m 644 "$$shown" "$(TO)/share/doc/chanv/$$shown" || exit 1; done
 	chmod 755 "$(TO)/share/doc/chanv/hercules/fetch.sh"
-	install -d "$(TO_LIB)/pkgconfig"
-	sed -e 's|@PREFIX@|$(PREFIX)|; s|@VERSION@|$(VERSION)|' \
-	  -e 's|@LIBDIR@|$(subst $(PREFIX)/,$${prefix}/,$(LIBDIR))|; /^Desc/s|$$|$(BESIDES)|' \
-	  docs/chanv.pc.in > \
-	  "$(TO_LIB)/pkgconfig/chanv.pc"
-	chmod 644 "$(TO_LIB)/pkgconfig/chanv.pc"
-	@test -n "$(DESTDIR)" || \
-	  echo "make install: run ldconfig as root, so that programs find the library"
 
 # Installs what `make rustc` built under the same names, so that the proved library can take its
 # place; the program, the library's version and chanv.pc say that it isn't proved.
@@ -212,9 +187,39 @@ install-rustc:
 	@$(MAKE) --no-print-directory -f $(firstword $(MAKEFILE_LIST)) install OUT=$(NOT_PROVED) \
 	  PROGRAM=$(NOT_PROVED)/chanv BUILDS="make rustc" BESIDES=", not proved"
 
-uninstall:
-	rm -f "$(TO)/bin/chanv" "$(TO)/share/man/man1/chanv.1" "$(TO)/include/chanv.h" \
-	  "$(TO)/share/bash-completion/completions/chanv" "$(TO_LIB)/libchanv.a" \
-	  "$(TO_LIB)/libchanv.so" "$(TO_LIB)/$(SONAME)" "$(TO_LIB)/libchanv.so.$(VERSION)" \
-	  "$(TO_LIB)/pkgconfig/chanv.pc"
-	rm -rf "$(TO)/share/doc/chanv" "$(TO)/share/chanv"
+# Debian's packages of what `make install` copies, or with MARK and INSTALL of what
+# `make install-rustc` does: their version then says so. CHANGELOG tells their date.
+INSTALL = install
+MARK =
+PACKAGES = $(OUT)/deb
+TO_PACK = $(abspath $(PACKAGES))/chanv
+deb: can_deb
+	rm -rf $(PACKAGES)
+	mkdir -p $(TO_PACK)
+	cp -R debian $(TO_PACK)
+	$(MAKE) --no-print-directory -s $(INSTALL) DESTDIR=$(TO_PACK)/stage PREFIX=/usr \
+	  LIBDIR=/usr/lib/$$(dpkg-architecture -qDEB_HOST_MULTIARCH)
+	@printf '%s\n' 'chanv ($(VERSION)$(MARK)) unstable; urgency=medium' '' \
+	  '  * CHANGELOG.md says what is new.' '' \
+	  " -- $$(sed -n 's/^Maintainer: //p' debian/control)  $$(date -R -r CHANGELOG.md)" \
+	  > $(TO_PACK)/debian/changelog
+	cd $(TO_PACK) && dpkg-buildpackage -b -us -uc > ../log 2>&1 || { tail ../log >&2; exit 1; }
+	@echo "$(PACKAGES) has the packages"
+
+deb-rustc:
+	@$(MAKE) --no-print-directory deb OUT=$(NOT_PROVED) INSTALL=install-rustc MARK='~not.proved'
+
+# The Python package with the library in it, as a wheel for machines of this kind, or of TARGET's.
+PLATFORM = linux_$(patsubst armv7,armv7l,$(firstword $(subst -, ,$(TARGET)) $(shell uname -m)))
+WHEELS = $(OUT)
+wheel:
+	@test -f $(OUT)/libchanv.so.$(VERSION) || \
+	  { echo "make wheel: no $(OUT)/libchanv.so.$(VERSION); run make lib first" >&2; exit 1; }
+	@mkdir -p $(WHEELS)
+	@wheel=$$(python3 -B python/backend/building.py $(WHEELS) $(OUT)/libchanv.so.$(VERSION) \
+	  $(PLATFORM) $(MARK)) && echo "$(WHEELS)/$$wheel is for pip"
+
+wheel-rustc:
+	@$(MAKE) --no-print-directory wheel OUT=$(NOT_PROVED) MARK='+not.proved'
+
+include $(dir $(firstword $(MAKEFILE_LIST)))install.mk

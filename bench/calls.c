@@ -147,7 +147,7 @@ enum { PROGRAMS = sizeof programs / sizeof *programs };
 
 struct work {
     const struct chanv_job *job;
-    const struct chanv_program *in_flight; /* IN_FLIGHT of them, each the program itself */
+    const struct chanv_row *in_flight; /* IN_FLIGHT of them, each the program itself */
     struct chanv_place *places;
     uint32_t (*call)(const struct work *work);
     long calls, wrong;
@@ -185,14 +185,20 @@ static uint32_t text(const struct work *work)
     return chanv_text(work->job, buffer, sizeof buffer, &len);
 }
 
-static struct chanv_needed needed;
+static const struct chanv_area whole = CHANV_ALL_STORAGE;
 static uint8_t memory[16 << 20];
+
+static uint32_t take_job_in(const struct chanv_job *job, struct chanv_program *program)
+{
+    struct chanv_source source = {job->storage, job->start, job->limit, job->device};
+    struct chanv_areas own = {&whole, 1};
+    return chanv_take_in(&source, &own, UINT32_MAX, memory, sizeof memory, NULL, program, NULL);
+}
 
 static uint32_t take_in(const struct work *work)
 {
     struct chanv_program program;
-    size_t len;
-    return chanv_take_in(work->job, memory, sizeof memory, &len, &program, &needed);
+    return take_job_in(work->job, &program);
 }
 
 enum { IN_FLIGHT = 8 };
@@ -200,7 +206,8 @@ enum { IN_FLIGHT = 8 };
 static uint32_t check_start(const struct work *work)
 {
     struct chanv_refusal refusal;
-    return chanv_check_start(work->job, work->in_flight, IN_FLIGHT, work->in_flight, &refusal);
+    return chanv_check_start(work->job, work->in_flight, IN_FLIGHT, &work->in_flight->program,
+                             &refusal);
 }
 
 static uint32_t check_write(const struct work *work)
@@ -213,7 +220,7 @@ static uint32_t check_write(const struct work *work)
 /* The part of a start that compares the kept bytes. */
 static uint32_t compare(const struct work *work)
 {
-    const struct chanv_program *program = work->in_flight;
+    const struct chanv_program *program = &work->in_flight->program;
     const uint8_t *kept = program->kept.at;
     int differ = 0;
     for (size_t i = 0; i < program->rows.keep.len; i++) {
@@ -302,12 +309,11 @@ static void cost(const char *name, const struct call *call, struct work work, lo
     *wrong += work.wrong;
 }
 
-static struct chanv_program remembered(const struct chanv_job *job, long *wrong)
+static struct chanv_row remembered(const struct chanv_job *job, long *wrong)
 {
-    struct chanv_program program;
-    size_t len;
-    *wrong += chanv_take_in(job, memory, sizeof memory, &len, &program, &needed) != CHANV_OK;
-    return program;
+    struct chanv_row row = {.stores = {0, 0}};
+    *wrong += take_job_in(job, &row.program) != CHANV_OK;
+    return row;
 }
 
 static void costs(long *wrong)
@@ -316,7 +322,7 @@ static void costs(long *wrong)
     for (int i = 0; i < PROGRAMS; i++) {
         struct chanv_job job = programs[i].make(programs[i].places);
         struct work work = {.job = &job, .places = places[0]};
-        struct chanv_program in_flight[IN_FLIGHT];
+        struct chanv_row in_flight[IN_FLIGHT];
         for (int number = 0; number < IN_FLIGHT; number++)
             in_flight[number] = remembered(&job, wrong);
         work.in_flight = in_flight;

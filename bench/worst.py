@@ -79,6 +79,52 @@ def texts_of_blanks(size):
     yield ("000000: " + "32 30 20 32 30 20 20 " * size + " " + "20 20  " * size + "\n") * 20
 
 
+def labels(size):
+    """Rows after words that may be labels or come before what Hercules displays."""
+    yield from (f"R V R: V: a b c R {row}" for row in rows(size))
+
+
+def quoted(size):
+    """Lines of words of which each may come before an address."""
+    yield from rows(1)
+    yield ("; " + "R: V: R0 <a " * size + "\n") * 20
+    yield ("x" * size + " " + "<" * size + "\n") * 20
+
+
+def coloured(size):
+    yield from (f"\x1b[1;32m{row[:7]}\x1b[0m{row[7:]}" for row in rows(size))
+
+
+def in_utf_16(size):
+    yield b"\xff\xfe"
+    yield from (row.encode("utf-16-le") for row in rows(size))
+
+
+def in_ebcdic(size):
+    yield from (row.encode("cp037") for row in rows(size))
+
+
+def gaps(size):
+    """A chain of seeks whose arguments are in gaps of a dump that has as many more."""
+    for at in range(size):
+        last = at == size - 1
+        yield f"{8 * at:06X} 07{0x10000 + 16 * at:06X}{0x00 if last else 0x40:02X}000006\n"
+    yield "\n"
+    yield from (f"{0x10000 + 16 * at:06X} 00\n\n" for at in range(size))
+
+
+def swapped_loops(size):
+    """Search loops whose words of four bytes are turned round."""
+    for part in search_loops(size):
+        yield b"".join(part[at : at + 4][::-1] for at in range(0, 24, 4))
+
+
+def data_chains(size):
+    """Reads that chain data to the next, up to the last."""
+    words = [word(READ_DATA, LENT, 0x80, 1)] * (size - 1) + [word(READ_DATA, LENT, LAST, 1)]
+    return deck(in_a_row(words), ROOM, store=[(LENT, 1)], places=size)
+
+
 def search_loops(size):
     """Loops of a search, a transfer back to it and a read."""
     for at in range(0, 24 * size, 24):
@@ -98,6 +144,7 @@ DECKS = {
     "loops backwards": (comb, 1_024),
     "scattered": (scattered, 1_024),
     "offences": (offends, 1_024),
+    "data chains": (data_chains, 1_024),
 }
 
 IMAGES = {
@@ -124,6 +171,13 @@ IMAGES = {
     "noise": (lambda size: [random.Random(size).randbytes(16 * size)], 4_096),
     "a chain": (lambda size: [OPERATION * size, bytes(8)], 4_096),
     "search loops": (search_loops, 1_024),
+    "swapped search loops": (swapped_loops, 1_024),
+    "labels": (labels, 1_024),
+    "quoted words": (quoted, 500),
+    "colours": (coloured, 1_024),
+    "UTF-16": (in_utf_16, 1_024),
+    "EBCDIC": (in_ebcdic, 1_024),
+    "arguments in gaps": (gaps, 1_024),
     "transfers": (lambda size: [bytes.fromhex("0800000800000000") * size], 4_096),
 }
 

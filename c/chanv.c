@@ -1,6 +1,6 @@
-/* The part of the library that isn't proved: words, rows that are no program, and the call that
- * takes a program in. That call rests on a proved one, to which it lends memory for a copy of
- * storage and for the lists, and lays what is listed into one piece of the caller's memory. */
+/* The part of the library that isn't proved: words, and the call that takes a program in. That call
+ * rests on a proved one, to which it lends memory for a copy of storage and for the lists, and lays
+ * what is listed into one piece of the caller's memory. */
 #include <chanv.h>
 #include <stdlib.h>
 #include <string.h>
@@ -72,6 +72,9 @@ const char *chanv_refusal_word(uint32_t code)
         [CHANV_REFUSED_KEEPS_STORED_OVER] = "keeps-stored-over",
         [CHANV_REFUSED_WRITES_OVER_KEPT] = "writes-over-kept",
         [CHANV_REFUSED_KEEPS_OUTSIDE] = "keeps-outside",
+        [CHANV_REFUSED_MAY_HANG] = "may-hang",
+        [CHANV_REFUSED_INTERRUPTS] = "interrupts",
+        [CHANV_REFUSED_ENDS_CHAINING] = "ends-chaining",
     };
     return WORD_OF(words, code);
 }
@@ -87,33 +90,23 @@ const char *chanv_entered_word(uint32_t entered)
     return WORD_OF(words, entered);
 }
 
-int chanv_is_fault(uint32_t answer)
-{
-    return answer >= CHANV_STORAGE_TOO_LARGE && answer <= CHANV_NOT_A_LIMIT;
-}
-
-/* ---- rows that are no program */
-
-void chanv_row_storing(const struct chanv_area *area, struct chanv_program *row)
-{
-    memset(row, 0, sizeof *row);
-    row->rows.store.at = area;
-    row->rows.store.len = 1;
-}
-
-void chanv_row_keeping(const struct chanv_area *area, struct chanv_program *row)
-{
-    memset(row, 0, sizeof *row);
-    row->rows.keep.at = area;
-    row->rows.keep.len = 1;
-}
-
 /* ---- taking a program in */
 
-/* The proved call: it writes to the copy only what the program keeps, and judges the copy. */
-enum chanv_answer needs_by_copy(const struct chanv_job *job, uint8_t *copy, size_t copy_len,
-                                struct chanv_needed *out, struct chanv_extent *extents,
-                                size_t extents_room, struct chanv_area *fetch, size_t fetch_room,
+/* What the proved call says: what is told, and how long each list is. */
+struct needed {
+    struct chanv_intake intake;
+    size_t extent_count, fetch_count, store_count, keep_count, kept_len;
+    uint32_t storage_len;
+    uint8_t mask;
+};
+
+/* The proved call: it writes to the copy only what the program keeps, and judges the copy. What the
+ * job grants doesn't matter. */
+enum chanv_answer needs_by_copy(const struct chanv_job *job, const struct chanv_area *own,
+                                size_t own_count, uint32_t allowed, uint8_t *copy,
+                                size_t copy_len, struct needed *out,
+                                struct chanv_extent *extents, size_t extents_room,
+                                struct chanv_area *fetch, size_t fetch_room,
                                 struct chanv_area *store, size_t store_room,
                                 struct chanv_area *keep, size_t keep_room, uint8_t *kept,
                                 size_t kept_room);
@@ -121,12 +114,12 @@ enum chanv_answer needs_by_copy(const struct chanv_job *job, uint8_t *copy, size
 enum { LARGEST_STORAGE = 16777216 };
 
 /* Where each list begins, in bytes from the front of the memory: areas, which are aligned most,
- * then extents, then the kept bytes. The counts are those of a `struct chanv_needed`. */
+ * then extents, then the kept bytes. */
 struct layout {
     size_t fetch, store, keep, extents, kept, end;
 };
 
-static struct layout layout_of(size_t front, const struct chanv_needed *counts)
+static struct layout layout_of(size_t front, const struct needed *counts)
 {
     struct layout at;
     at.fetch = front;
@@ -138,21 +131,20 @@ static struct layout layout_of(size_t front, const struct chanv_needed *counts)
     return at;
 }
 
-/* The longest lists that a program of so many places has: a place fetches or stores one area, keeps
- * its CCW and at most six bytes of an argument, and seeks one cylinder of 203, of which every other
- * begins a row. */
-static struct chanv_needed most_of(size_t places)
-{
-    struct chanv_needed most = {.fetch_count = places, .store_count = places};
-    most.keep_count = 2 * places;
-    most.extent_count = places < 102 ? places : 102;
-    most.kept_len = 14 * places;
-    return most;
-}
+/* Room that most programs need no more than: a place fetches or stores one area, keeps its CCW and
+ * at most six bytes of an argument, and seeks one cylinder. */
+enum { FEW_PLACES = 256 };
+static const struct needed usual_rooms = {
+    .extent_count = 102,
+    .fetch_count = FEW_PLACES,
+    .store_count = FEW_PLACES,
+    .keep_count = 2 * FEW_PLACES,
+    .kept_len = 14 * FEW_PLACES,
+};
 
 /* Fills a program of zeros field by field, so that the bytes between its fields stay 0. */
 static void remember(struct chanv_program *program, const uint8_t *memory, const struct layout *at,
-                     const struct chanv_job *job, const struct chanv_needed *needed)
+                     const struct chanv_source *source, const struct needed *needed)
 {
     struct chanv_rows *rows = &program->rows;
     rows->extents.at = (const void *)(memory + at->extents);
@@ -167,8 +159,8 @@ static void remember(struct chanv_program *program, const uint8_t *memory, const
     rows->mask = needed->mask;
     program->kept.at = memory + at->kept;
     program->kept.len = needed->kept_len;
-    program->start = job->start;
-    program->device = job->device;
+    program->start = source->start;
+    program->device = source->device;
 }
 
 /* Moves the lists from the room in which they were made to the caller's memory, without gaps. */
@@ -182,14 +174,44 @@ static void move_lists(uint8_t *to, const struct layout *at, const uint8_t *from
     memcpy(to + at->kept, from + made->kept, at->end - at->kept);
 }
 
-static enum chanv_answer ask_into(uint8_t *lent, const struct chanv_needed *rooms, size_t copy_len,
-                                  const struct chanv_job *job, struct chanv_needed *needed)
+/* The copy is as long as storage, unless storage is so long that nobody copies it. */
+static size_t copy_len_of(const struct chanv_source *source)
 {
+    return source->storage.len <= LARGEST_STORAGE ? source->storage.len : 0;
+}
+
+/* Memory for lists with these rooms and then for the copy, or NULL. What it holds doesn't matter, so
+ * it isn't zeroed, and only the few pages that are written cost anything. */
+static uint8_t *lend(const struct needed *rooms, const struct chanv_source *source)
+{
+    return malloc(layout_of(0, rooms).end + copy_len_of(source));
+}
+
+/* Asks the proved call, in lent memory. If there is none, the copy has no bytes, and the call
+ * returns CHANV_MEMORY, unless the source has a fault that comes first. */
+static enum chanv_answer ask_into(uint8_t *lent, const struct needed *rooms,
+                                  const struct chanv_source *source, const struct chanv_areas *own,
+                                  uint32_t allowed, struct needed *needed)
+{
+    static const struct chanv_extent all = CHANV_ALL_CYLINDERS;
+    static const struct needed no_rooms;
+    static uint32_t none;
+    struct chanv_job job = {
+        .storage = source->storage,
+        .extents = {&all, 1},
+        .start = source->start,
+        .limit = source->limit,
+        .device = source->device,
+    };
+    if (lent == NULL)
+        rooms = &no_rooms;
+    size_t copy_len = lent != NULL ? copy_len_of(source) : 0;
+    uint8_t *to = lent != NULL ? lent : (uint8_t *)&none;
     struct layout at = layout_of(0, rooms);
-    return needs_by_copy(job, lent + at.end, copy_len, needed, (void *)(lent + at.extents),
-                         rooms->extent_count, (void *)(lent + at.fetch), rooms->fetch_count,
-                         (void *)(lent + at.store), rooms->store_count,
-                         (void *)(lent + at.keep), rooms->keep_count, lent + at.kept,
+    return needs_by_copy(&job, own->at, own->len, allowed, to + at.end, copy_len, needed,
+                         (void *)(to + at.extents), rooms->extent_count, (void *)(to + at.fetch),
+                         rooms->fetch_count, (void *)(to + at.store), rooms->store_count,
+                         (void *)(to + at.keep), rooms->keep_count, to + at.kept,
                          rooms->kept_len);
 }
 
@@ -198,43 +220,47 @@ enum { MOST_PADDING = sizeof(uint32_t) - 1 };
 
 /* Hands the lists over in the caller's memory. A program takes as many bytes at each address: all
  * padding is counted, though less may be used. */
-static enum chanv_answer hand_over(const struct chanv_job *job, const struct chanv_needed *needed,
-                                   const uint8_t *lent, const struct layout *made, uint8_t *memory,
+static enum chanv_answer hand_over(const struct chanv_source *source, const struct needed *needed,
+                                   const uint8_t *lent, const struct needed *rooms, uint8_t *memory,
                                    size_t room, size_t *len, struct chanv_program *program)
 {
     size_t front = -(uintptr_t)memory % sizeof(uint32_t);
-    struct layout at = layout_of(front, needed);
+    struct layout at = layout_of(front, needed), made = layout_of(0, rooms);
     *len = at.end - front + MOST_PADDING;
     if (*len > room)
         return CHANV_NO_ROOM;
-    move_lists(memory, &at, lent, made);
-    remember(program, memory, &at, job, needed);
+    move_lists(memory, &at, lent, &made);
+    remember(program, memory, &at, source, needed);
     return CHANV_OK;
 }
 
-/* What the lent memory holds doesn't matter, so it isn't zeroed, and only the few pages that are
- * written cost anything. If there is none, the copy has no bytes, and the proved call returns
- * CHANV_MEMORY, unless the job has a fault that comes first. */
-enum chanv_answer (chanv_take_in)(const struct chanv_job *job, void *memory, size_t room, size_t *len,
-                                struct chanv_program *program, struct chanv_needed *out)
+/* A program with longer lists than usual is asked about again, with the room that they need; if it
+ * then needs more, storage changed between. */
+enum chanv_answer (chanv_take_in)(const struct chanv_source *source, const struct chanv_areas *own,
+                                  uint32_t allowed, void *memory, size_t room, size_t *len,
+                                  struct chanv_program *program, struct chanv_intake *out)
 {
-    static uint32_t none;
-    struct chanv_needed unread, *needed = out != NULL ? out : &unread;
-    size_t uncounted, *count = len != NULL ? len : &uncounted;
-    size_t copy_len = job->storage.len <= LARGEST_STORAGE ? job->storage.len : 0;
-    struct chanv_needed rooms = most_of(job->limit <= CHANV_LARGEST_LIMIT ? job->limit : 0);
-    struct layout made = layout_of(0, &rooms);
-    uint8_t *lent = malloc(made.end + copy_len);
-    if (lent == NULL) {
-        rooms = most_of(0);
-        copy_len = 0;
+    struct needed needed, rooms = usual_rooms;
+    size_t count = 0;
+    uint8_t *lent = lend(&rooms, source);
+    enum chanv_answer answer = ask_into(lent, &rooms, source, own, allowed, &needed);
+    if (answer == CHANV_NO_ROOM) {
+        free(lent);
+        rooms = needed;
+        lent = lend(&rooms, source);
+        answer = ask_into(lent, &rooms, source, own, allowed, &needed);
     }
-    enum chanv_answer answer =
-        ask_into(lent != NULL ? lent : (uint8_t *)&none, &rooms, copy_len, job, needed);
     memset(program, 0, sizeof *program);
-    *count = 0;
+    if (answer == CHANV_NO_ROOM) {
+        needed.intake = (struct chanv_intake){.refusal.row = CHANV_NOBODY};
+        answer = CHANV_CHANGED_MEANWHILE;
+    }
     if (answer == CHANV_OK)
-        answer = hand_over(job, needed, lent, &made, memory, room, count, program);
+        answer = hand_over(source, &needed, lent, &rooms, memory, room, &count, program);
     free(lent);
+    if (len != NULL)
+        *len = count;
+    if (out != NULL)
+        *out = needed.intake;
     return answer;
 }

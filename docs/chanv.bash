@@ -9,8 +9,8 @@ _chanv() {
         [why]='--all --of'
         [needs]='--deck'
         [graph]=''
-        [find]='--device --limit --at --storage'
-        [deck]='--device --mask --start --limit --extent --fetch --store --least --open --at --storage'
+        [find]='--device --limit --at --storage --raw'
+        [deck]='--device --mask --start --limit --extent --fetch --store --least --open --at --storage --raw'
         [explain]=''
         [show]='--name'
     )

@@ -70,8 +70,7 @@ static int look_at_processors(void)
     for (i = 0; i < MAX_CPU_ENGINES && i < CHANVASK_LOWS; i++)
         if ((regs = sysblk.regs[i]) != NULL) {
             loads |= regs->loadstate;
-            flight.lows[i] = (struct chanv_area){regs->PX_L, CHANVASK_LOW};
-            chanv_row_storing(&flight.lows[i], &flight.programs[i]);
+            flight.table[i].stores = (struct chanv_area){regs->PX_L, CHANVASK_LOW};
         }
     return loads;
 }
@@ -150,7 +149,7 @@ static int begins(struct CHANVASK *ask, U32 start)
     if (ask->extent_count > 0 && !loads)
         program = judged(ask, start);
     if (program != NULL) {
-        flight.programs[ask->row] = *program;
+        flight.table[ask->row].program = *program;
         ask->seen = flight.unjudged;
     } else if (ask->refuse && !loads) {
         ask->refused++;
@@ -185,7 +184,7 @@ static void our_start(DEVBLK *dev)
 /* The channel has made its last step on this disk: says what came between. */
 static void leave(struct CHANVASK *ask)
 {
-    struct chanv_program *program = &flight.programs[ask->row];
+    struct chanv_program *program = &flight.table[ask->row].program;
     U16 devnum = flight.devices[ask->row];
     U32 address;
 
@@ -309,7 +308,7 @@ static void show_version(void)
 
 static void show_disk(const struct CHANVASK *ask)
 {
-    int is_judged = flight.programs[ask->row].device != 0;
+    int is_judged = flight.table[ask->row].program.device != 0;
 
     logmsg("HHCCV012I %4.4X: %s in flight; %llu starts, %llu questions, %llu noes, %llu refused, "
            "%llu beside unjudged, %llu changed\n%s", ask->dev->devnum,

@@ -3,7 +3,7 @@
  * A program is asked about once, and what it needs is remembered with the bytes that it keeps. At
  * each start chanv_check_start says whether storage still has these bytes, whether the extents, the
  * mask and the storage keys grant what is needed, and whether the programs in flight are spared.
- * Only chanv_why needs storage that nobody writes meanwhile: it sees a copy of some blocks.
+ * Only chanv_why needs storage that nobody writes meanwhile: it sees a copy.
  */
 #ifndef CHANVASK_H
 #define CHANVASK_H
@@ -13,7 +13,6 @@ enum {
     CHANVASK_EXTENTS = 32,  /* may be in a device statement */
     CHANVASK_PROGRAMS = 64, /* are remembered for a disk */
     CHANVASK_PATH = 64,     /* places of a path are logged */
-    CHANVASK_ROUNDS = 16,   /* of bringing blocks; after these all are brought */
     CHANVASK_TOLD = 8192,   /* the lines about a refusal have fewer bytes */
     CHANVASK_BLOCK = 2048,  /* bytes have one storage key in S/370 mode */
     CHANVASK_STORAGE = 0x1000000, /* bytes can be named by CCWs */
@@ -23,21 +22,20 @@ enum {
     CHANVASK_ROWS = CHANVASK_LOWS + 256
 };
 
-/* The programs in flight on all disks, in one table under one lock. First come rows for the stores
+/* What is in flight on all disks, in one table under one lock. First come rows for the stores
  * that the machine makes into low storage. The row of a disk holds its program from a yes to the
  * channel's last step for it, and otherwise zeros. A program that starts without a yes has no row,
  * because its stores keep to nothing: it is counted, to be reported with each yes beside it. */
 static struct {
     pthread_mutex_t lock; /* held from a question until its program is entered */
-    struct chanv_program programs[CHANVASK_ROWS];
-    U16 devices[CHANVASK_ROWS]; /* whose row it is */
-    size_t rows;                /* are in use; a disk keeps its row */
-    struct chanv_area lows[CHANVASK_LOWS];
+    struct chanv_row table[CHANVASK_ROWS];
+    U16 devices[CHANVASK_ROWS];  /* whose row it is */
+    size_t rows;                 /* are in use; a disk keeps its row */
     unsigned long long unjudged; /* programs that have started without a yes, */
     U16 unjudged_device;         /* and where the last of them has */
 } flight = {.lock = PTHREAD_MUTEX_INITIALIZER, .rows = CHANVASK_LOWS};
 
-static BYTE chanvask_storage[CHANVASK_STORAGE]; /* a copy of what a refused program comes to */
+static BYTE chanvask_storage[CHANVASK_STORAGE]; /* a copy, for the explanation of a no */
 
 /* A program that was asked about, and the memory for what it needs and keeps. */
 struct chanvask_program {
@@ -204,64 +202,6 @@ static inline void chanvask_tell_path(struct CHANVASK *ask, const struct chanv_p
     }
 }
 
-/* Brings the block of a byte into the copy. Returns whether that changes the copy. */
-static inline int chanvask_bring(const struct chanv_job *job, U32 address)
-{
-    U32 at = address / CHANVASK_BLOCK * CHANVASK_BLOCK;
-
-    if (address >= job->storage.len
-        || memcmp(chanvask_storage + at, job->storage.at + at, CHANVASK_BLOCK) == 0)
-        return 0;
-    memcpy(chanvask_storage + at, job->storage.at + at, CHANVASK_BLOCK);
-    return 1;
-}
-
-/* Brings the blocks of a CCW and of the data chain that it begins, with those of six bytes of data
- * of each: there an argument or a mask may be. An argument has six CCWs at most, and between each
- * two a transfer. */
-static inline int chanvask_bring_chain(const struct chanv_job *job, U32 address)
-{
-    int more = 0, left;
-
-    for (left = 11; left > 0 && address % 8 == 0 && address < job->storage.len; left--) {
-        const BYTE *ccw = chanvask_storage + address;
-        U32 data;
-        more |= chanvask_bring(job, address);
-        data = (U32)ccw[1] << 16 | (U32)ccw[2] << 8 | ccw[3];
-        more |= chanvask_bring(job, data) | chanvask_bring(job, data + 5);
-        if ((ccw[0] & 0x0F) != 0x08 && !(ccw[4] & 0x80))
-            break;
-        address = (ccw[0] & 0x0F) == 0x08 ? data : address + 8;
-    }
-    return more;
-}
-
-/* Takes the job to the copy, into which all is brought that counts: the blocks to which the places
- * that are listed there lead, until the copy changes no more. */
-static inline void chanvask_copy(struct chanv_job *job)
-{
-    static const struct chanv_extent disk = CHANV_ALL_CYLINDERS;
-    static const struct chanv_area all = CHANV_ALL_STORAGE;
-    static struct chanv_place places[CHANV_USUAL_LIMIT];
-    struct chanv_job open = *job;
-    size_t i, count, extent;
-    int round, more = 1;
-
-    open.storage.at = chanvask_storage;
-    open.extents = (struct chanv_extents){&disk, 1};
-    open.fetch = open.store = (struct chanv_areas){&all, 1};
-    open.mask = CHANV_OPEN_MASK;
-    for (round = 0; more && round < CHANVASK_ROUNDS; round++) {
-        if (chanv_list(&open, places, CHANV_USUAL_LIMIT, &count, &extent) != CHANV_OK)
-            break;
-        for (more = 0, i = 0; i < count; i++)
-            more |= chanvask_bring_chain(job, places[i].address);
-    }
-    if (more)
-        memcpy(chanvask_storage, job->storage.at, job->storage.len);
-    job->storage.at = chanvask_storage;
-}
-
 /* Asks why the program may not run, and tells it. No room for the path is a no too, with no place
  * of it written. After a yes something has changed since the refusal. */
 static inline void chanvask_why(struct CHANVASK *ask, U32 start)
@@ -274,7 +214,8 @@ static inline void chanvask_why(struct CHANVASK *ask, U32 start)
     struct chanv_job job = chanvask_job(ask, start, rows, rows);
     enum chanv_answer answer;
 
-    chanvask_copy(&job);
+    memcpy(chanvask_storage, job.storage.at, job.storage.len);
+    job.storage.at = chanvask_storage;
     answer = chanv_why(&job, path, CHANVASK_PATH, second_path, CHANVASK_PATH, &why);
     if (answer != CHANV_NO && answer != CHANV_NO_ROOM) {
         chanvask_no_answer(ask, start, answer == CHANV_YES ? CHANV_CHANGED_MEANWHILE : answer);
@@ -297,10 +238,13 @@ static inline void chanvask_why(struct CHANVASK *ask, U32 start)
 /* Takes the program at an address in, into memory that grows as it does. It isn't in flight. */
 static inline enum chanv_answer chanvask_remember(struct CHANVASK *ask, U32 start,
                                                   struct chanvask_program *taken,
-                                                  struct chanv_needed *needed)
+                                                  struct chanv_intake *intake)
 {
     static const struct chanv_areas none;
+    static const struct chanv_area all = CHANV_ALL_STORAGE;
+    const struct chanv_areas own = {&all, 1}; /* the guest has one user, who owns it all */
     struct chanv_job job = chanvask_job(ask, start, none, none);
+    struct chanv_source source = {job.storage, start, job.limit, job.device};
     enum chanv_answer answer = CHANV_CHANGED_MEANWHILE;
     size_t len = taken->room;
     int tries;
@@ -314,7 +258,8 @@ static inline enum chanv_answer chanvask_remember(struct CHANVASK *ask, U32 star
             taken->memory = more;
             taken->room = len;
         }
-        answer = chanv_take_in(&job, taken->memory, taken->room, &len, &taken->program, needed);
+        answer = chanv_take_in(&source, &own, CHANV_ALLOW_HANGING | CHANV_ALLOW_INTERRUPTING,
+                               taken->memory, taken->room, &len, &taken->program, intake);
         if (answer != CHANV_NO_ROOM && answer != CHANV_CHANGED_MEANWHILE)
             break;
     }
@@ -326,14 +271,14 @@ static inline enum chanv_answer chanvask_remember(struct CHANVASK *ask, U32 star
  * there, and Hercules goes on. */
 static inline int chanvask_take_in(struct CHANVASK *ask, struct chanvask_program *taken, U32 start)
 {
-    struct chanv_needed needed = {0};
-    enum chanv_answer answer = chanvask_remember(ask, start, taken, &needed);
+    struct chanv_intake intake = {.refusal.code = 0};
+    enum chanv_answer answer = chanvask_remember(ask, start, taken, &intake);
 
-    if (answer == CHANV_OK && !needed.ends_chaining)
+    if (answer == CHANV_OK)
         return 1;
     memset(&taken->program, 0, sizeof taken->program);
-    if (answer == CHANV_OK) {
-        chanvask_refuse(ask, needed.ends_chaining_at);
+    if (intake.refusal.code == CHANV_REFUSED_ENDS_CHAINING) {
+        chanvask_refuse(ask, intake.refusal.value);
         chanvask_tell(ask, "HHCCV006W %4.4X: chanv stops at %6.6X, start %6.6X%s\n",
                       ask->dev->devnum, ask->address, start, ask->outcome);
     } else if (answer == CHANV_NO)
@@ -348,7 +293,7 @@ static inline int chanvask_may_start(struct CHANVASK *ask, const struct chanv_pr
 {
     struct chanv_job job = chanvask_job(ask, start, program->rows.fetch, program->rows.store);
 
-    return chanv_check_start(&job, flight.programs, flight.rows, program, refusal) == CHANV_YES;
+    return chanv_check_start(&job, flight.table, flight.rows, program, refusal) == CHANV_YES;
 }
 
 /* Asks about the program at an address, under the table's lock. Returns it after a yes. After a no,
@@ -372,8 +317,8 @@ static inline const struct chanv_program *chanvask_ask(struct CHANVASK *ask, U32
         chanvask_why(ask, start);
         return NULL;
     }
-    if (refusal.program >= CHANVASK_LOWS)
-        sprintf(who, "the program on %4.4X", flight.devices[refusal.program]);
+    if (refusal.row >= CHANVASK_LOWS)
+        sprintf(who, "the program on %4.4X", flight.devices[refusal.row]);
     chanvask_refuse(ask, start);
     chanvask_tell(ask, "HHCCV007W %4.4X: chanv %s %6.6X %s %s, start %6.6X%s\n", ask->dev->devnum,
                   chanv_refusal_word(refusal.code), refusal.value, stores ? "of" : "by", who,

@@ -1,10 +1,12 @@
 #!/usr/bin/env python3
-"""Packs the stripped workspace with Rust's crates, so that cargo alone builds it, off line.
+"""Packs what `make install` installs, as sources that cargo and a C compiler build, off line.
 
     rustc/dist.py VERSION ARCHIVE
 
 The archive has the workspace that strip.py makes, in vendor/ the crates of Debian that it uses,
-with Debian's checksums, and a lock. The same sources give the same archive.
+with Debian's checksums, and a lock; the C file and the header of the library; in share/ what no
+machine compiles; and the Makefile and the README of archive/. The same sources give the same
+archive.
 """
 
 import gzip
@@ -36,6 +38,23 @@ def vendor(folder):
     (folder / ".cargo/config.toml").write_text(VENDORED)
 
 
+def add_rest(folder, name, version):
+    """Adds all but the workspace and its crates."""
+    root = HERE.parent
+    for file in ("c/chanv.c", "crates/chanv_c/include/chanv.h", "docs/chanv.pc.in"):
+        shutil.copy(root / file, folder / "chanv_c")
+    shutil.copy(root / "install.mk", folder)
+    words = ["make", "-s", "-C", root, "share", f"DESTDIR={folder}", "PREFIX="]
+    subprocess.run(words, check=True)
+    oldest = ".".join(map(str, strip.OLDEST))
+    values = {"@VERSION@": version, "@FOLDER@": name, "@OLDEST@": oldest}
+    for file in (HERE / "archive").iterdir():
+        text = file.read_text()
+        for hole, value in values.items():
+            text = text.replace(hole, value)
+        (folder / file.name).write_text(text)
+
+
 def pack(folder, name, archive):
     """Packs a folder under a name, each file with the same owner, mode and time. The archive
     doesn't hold its own name."""
@@ -59,9 +78,9 @@ def main():
         folder = Path(room).resolve() / "chanv"
         subprocess.run([HERE / "strip.py", folder], check=True)
         vendor(folder)
-        shutil.copy(HERE / "README.md", folder)
-        shutil.copy(HERE.parent / "CHANGELOG.md", folder)
-        pack(folder, f"chanv-{version}-not-proved", archive)
+        name = f"chanv-{version}-not-proved"
+        add_rest(folder, name, version)
+        pack(folder, name, archive)
 
 
 if __name__ == "__main__":

@@ -1,9 +1,12 @@
 #!/bin/sh
-# Loads Debian's rustc with Rust's library for s390x, aarch64 and i686 into a folder, and changes
-# nothing else: rustc/machines.sh [FOLDER], by default out/machines. It takes 200 MB and 20 seconds.
-# Put the folder on your path: it has a rustc and a cargo. The linkers and qemu are Debian's packages
-# gcc-{s390x,aarch64,i686}-linux-gnu, libc6-dev-{s390x,arm64,i386}-cross and qemu-user-static.
+# Loads Debian's rustc with Rust's library for s390x, aarch64, armv7 and i686 into a folder, and
+# changes nothing else: rustc/machines.sh [FOLDER], by default out/machines. It takes 250 MB and 20
+# seconds. Put the folder on your path: it has a rustc and a cargo. The linkers and qemu are Debian's
+# packages gcc-{s390x,aarch64,i686}-linux-gnu, gcc-arm-linux-gnueabihf,
+# libc6-dev-{s390x,arm64,armhf,i386}-cross and qemu-user-static.
 set -eu
+others="s390x arm64 armhf i386"
+machines="amd64 $others"
 mkdir -p "${1:-out/machines}"
 cd "${1:-out/machines}"
 to=$PWD
@@ -12,7 +15,7 @@ cat > conf << END
 Dir::State "$to/state";
 Dir::State::status "/var/lib/dpkg/status";
 Dir::Cache "$to/cache";
-APT::Architectures { "amd64"; "s390x"; "arm64"; "i386"; };
+APT::Architectures { $(printf '"%s"; ' $machines)};
 END
 export APT_CONFIG="$to/conf"
 # not each place that apt takes packages from has all machines
@@ -25,9 +28,9 @@ versions() {
 
 # The newest compiler that has Rust's library for each machine: some places that apt takes packages
 # from don't have all machines.
-version=$(for machine in amd64 s390x arm64 i386; do
+version=$(for machine in $machines; do
 	versions libstd-rust-web-dev:$machine
-done | sort -V | uniq -c | sed -n 's/^ *4 //p' | tail -n 1)
+done | sort -V | uniq -c | sed -n "s/^ *$(echo $machines | wc -w) //p" | tail -n 1)
 [ -n "$version" ] || {
 	echo "rustc/machines.sh: apt knows no rustc-web with a library for each machine" >&2
 	exit 1
@@ -68,8 +71,7 @@ $more"
 done
 cd deb
 # shellcheck disable=SC2046,SC2086
-apt-get -qq download $wanted \
-	$(of_version libstd-rust-web-dev:s390x libstd-rust-web-dev:arm64 libstd-rust-web-dev:i386)
+apt-get -qq download $wanted $(of_version $(printf 'libstd-rust-web-dev:%s ' $others))
 for package in *.deb; do dpkg -x "$package" "$to"; done
 cd "$to"
 for tool in rustc cargo; do

@@ -13,6 +13,7 @@ Debian that are missing here.
 """
 
 import argparse
+import json
 import os
 import re
 import shutil
@@ -299,11 +300,18 @@ def write(path, text):
     return True
 
 
+def without_paths(folder):
+    """The flags by which no path of the builder gets into what is built, so that the same sources
+    give the same bytes in every folder."""
+    home = os.environ.get("CARGO_HOME") or Path.home() / ".cargo"
+    return [f"--remap-path-prefix={it}=" for it in (home, folder.absolute())]
+
+
 def write_source(folder, crates):
     """Tells cargo where the crates come from. The other source's versions may be others."""
-    text = ""
+    text = f"[build]\nrustflags = {json.dumps(without_paths(folder))}\n"
     if crates:
-        text = '[source.crates-io]\nreplace-with = "folder"\n[source.folder]\n'
+        text += '[source.crates-io]\nreplace-with = "folder"\n[source.folder]\n'
         text += f'directory = "{crates}"\n'
     if write(folder / ".cargo/config.toml", text):
         (folder / "Cargo.lock").unlink(missing_ok=True)

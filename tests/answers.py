@@ -32,7 +32,7 @@ DECKS = {
 }
 WIDE = """\
    address   entered  flags   data            command              does
-   000800    fresh    -C---0  000900-000904   search-id-equal      start, fetches 5 bytes until found (cylinder 0, head 0, record 0)
+   000800    fresh    -C---0  000900-000904   search-id-equal      start, fetches 5 bytes, until found (cylinder 0, head 0, record 0)
    000808    fresh    -----0  -> 000800       transfer-in-channel
    000810    fresh    --L--0  000A00-000A4F   read-data            stores 80 bytes, SLI
 yes
@@ -136,11 +136,12 @@ def of_image(action, image, name=None):
     if image not in ("core", "empty"):
         fault = (2, "image too long\n", "") if image == "long" else REFUSED[image]
         return refused(action, fault, name)
+    empty = "" if image == "core" else "note: the image is empty\n"
     if action == "find":
-        return Ran(0, FOUND) if image == "core" else Ran(0, "", NONE_FOUND)
+        return Ran(0, FOUND) if image == "core" else Ran(0, "", empty + NONE_FOUND)
     deck = text_of(EXAMPLES / "changes-argument.deck")
     bare = re.sub("(?s)storage .*end", "storage 0000000\nend", deck)
-    return Ran(0, deck if image == "core" else bare)
+    return Ran(0, deck if image == "core" else bare, empty)
 
 
 def answers(action, names, given):

@@ -4,7 +4,8 @@
 qemu runs them. The program writes what the proved program writes over all decks, images, words and
 command lines, and the programs of c/ write their lines with the library. s390x has the other order
 of bytes. i686 has words of 32 bits: there a sum of two addresses wraps, which on 64 bits, where all
-is proved, none does; c/far.c asks about such addresses and rows.
+is proved, none does; c/far.c asks about such addresses and rows. aarch64 and armv7 are those of a
+Raspberry Pi.
 
 A machine without its linker, its qemu or a compiler with Rust's library for it is left out, by its
 name. `rustc/machines.sh` loads such a compiler into out/machines.
@@ -27,9 +28,10 @@ COMPILER = ROOT / "out/machines"
 # the machines, and what runs a program of each by the name that follows; x86-64 itself runs i686's
 OF_I686 = "/usr/i686-linux-gnu/lib"
 MACHINES = [
-    ("s390x", "qemu-s390x-static -L /usr/s390x-linux-gnu -0"),
-    ("aarch64", "qemu-aarch64-static -L /usr/aarch64-linux-gnu -0"),
-    ("i686", f"{OF_I686}/ld-linux.so.2 --library-path {OF_I686} --argv0"),
+    ("s390x", "linux-gnu", "qemu-s390x-static -L /usr/s390x-linux-gnu -0"),
+    ("aarch64", "linux-gnu", "qemu-aarch64-static -L /usr/aarch64-linux-gnu -0"),
+    ("armv7", "linux-gnueabihf", "qemu-arm-static -L /usr/arm-linux-gnueabihf -0"),
+    ("i686", "linux-gnu", f"{OF_I686}/ld-linux.so.2 --library-path {OF_I686} --argv0"),
 ]
 IN_C = [*LINED, "bytes"]
 # random jobs for each machine
@@ -37,9 +39,9 @@ JOBS = 20
 
 
 class Machine:
-    def __init__(self, name, runner):
-        self.name, self.target = name, f"{name}-unknown-linux-gnu"
-        self.tools, self.runner = f"{name}-linux-gnu", runner
+    def __init__(self, name, system, runner):
+        self.name, self.target = name, f"{name}-unknown-{system}"
+        self.tools, self.runner = f"{name.removesuffix('v7')}-{system}", runner
         self.built = NOT_PROVED / self.target
 
     def lacks(self):

@@ -62,7 +62,7 @@ def give(copy, crate):
     """Gives the checkout what `rt ci` built of the crate: program, or library with its proofs."""
     built, out = copy / "crates" / crate / "out", CRATES / crate / "out"
     archive = built / f"rlib/{crate}.rlib/lib{crate}.a"
-    for file in (built / crate, built / f"{crate}.stamp", archive):
+    for file in (built / crate, built / f"{crate}.o", built / f"{crate}.stamp", archive):
         if file.is_file():
             out.mkdir(exist_ok=True)
             shutil.copy(file, out)

@@ -1,16 +1,18 @@
-"""`chanv find` and `chanv deck` say where an image seems to begin, and that an image is text.
+"""`chanv find` and `chanv deck` say where an image seems to begin, and what other file it is.
 
     tests/run beginnings
 
 A search loop is a search under chain command and, eight bytes on, a transfer. It fits if the image
 begins at the transfer's target less the search's offset, which is below 0 if so many bytes come
-before the one at address 0. Standard error has a note exactly if one address besides --at fits at
-least two loops, and none more, or one loop alone where none fits --at and it leads to zeros or out
-of the image. The loops are read anew here, over the bytes: of an image cut at twenty places, of
-noise, of loops that agree on a wrong address, of ties, and of images with no loop. Over each cut
+before the one at address 0. A loop doesn't count for another address than --at if its transfer leads
+to a CCW without a fault under --at. Standard error has a note exactly if one address besides --at
+fits at least two loops, and none more, or one loop alone where none fits --at and it leads to zeros
+or out of the image; or, if no two loops agree, if two agree once the bytes of each word of four are
+swapped. The loops are read anew here, over the bytes: of an image cut at twenty places, of noise, of
+loops that agree on a wrong address, of ties, and of images with no loop. Over each cut
 image the address that the note names then brings the programs of the whole image, and no note; so
 does the command that it names over an image with bytes before its own. Decks that are made of an
-image get the same note. Last come images that are text, and files of other forms.
+image get the same note. Last come files of other forms.
 """
 
 import gzip
@@ -29,10 +31,6 @@ from channel import CHAIN_COMMAND, CHAIN_DATA, COMMANDS, LOW_BITS, Ccw  # noqa: 
 
 SEED, IMAGES = 71, 300
 DEVICE = ["--device", "2314"]
-IS_TEXT = (
-    "note: this is text in hexadecimal, but no line of it is an address with bytes; it is taken as "
-    "raw bytes\n"
-)
 
 
 def ccw_of(word):
@@ -50,22 +48,56 @@ def is_search(ccw):
     return command is not None and command.kind == "search" and is_chained and ccw.count > 0
 
 
-def beginnings(image):
-    """For each search loop the address at which the image then begins, and where it leads."""
+SWAPPED = (
+    "note: {} search loops fit if the bytes of each word of four are swapped: dump with "
+    "--endian=big\n"
+)
+
+
+def loops_of(image, size):
+    """For each search loop the address at which an image of this size then begins, where it leads,
+    and its offset."""
     for at in range(len(image) - 15):
         transfer = ccw_of(image[at + 8 : at + 16])
         if is_search(ccw_of(image[at : at + 8])) and transfer.is_transfer():
             begins = transfer.address - at
-            if transfer.address % 8 == 0 and begins + len(image) <= LARGEST:
-                yield begins, transfer.address
+            if transfer.address % 8 == 0 and begins + size <= LARGEST:
+                yield begins, transfer.address, at
+
+
+def beginnings(image):
+    for begins, target, _ in loops_of(image, len(image)):
+        yield begins, target
+
+
+def leads_to_ccw(image, offset):
+    if not 0 <= offset <= len(image) - 8:
+        return False
+    ccw = ccw_of(image[offset : offset + 8])
+    return ccw.code in COMMANDS and not ccw.flags & LOW_BITS and ccw.count > 0
+
+
+def swapped_votes(image):
+    """How many loops agree in the image with each word turned round, at words alone."""
+    words = [image[at : at + 4] for at in range(0, len(image) - 3, 4)]
+    swapped = b"".join(word[::-1] for word in words)
+    # a transfer of sixteen bytes may not go past the image
+    votes = [begins for begins, target, at in loops_of(swapped, len(image)) if at % 4 == 0]
+    return max(map(votes.count, votes), default=0)
 
 
 def note_of(image, at=0):
-    loops = [*beginnings(image)]
+    loops = [
+        (begins, target)
+        for begins, target in beginnings(image)
+        if begins == at or not leads_to_ccw(image, target - at)
+    ]
     votes = [begins for begins, _ in loops]
     counts = {begins: votes.count(begins) for begins in votes}
     here = counts.pop(at, 0)
     most = max(counts.values(), default=0)
+    if max(here, most) < 2 and (swapped := swapped_votes(image)) > 1:
+        return SWAPPED.format(swapped)
     likely = [begins for begins, count in counts.items() if count == most]
     if not likely or len(likely) > 1 == most or most <= min(here, 1):
         return ""
@@ -127,6 +159,11 @@ def image_of_preamble(size, loops):
 
 
 ODD = 0x1235
+# two searches that hand on to the next search, 24 bytes on, and a third that does to a read
+LEADS_ON = bytes(0x800) + bytes.fromhex(
+    "3100090040000005 0800081800000000 06000A0020000050"
+    "3100090840000005 0800083000000000 06000A0020000050 06000A0020000050"
+)
 FIRST_REGION = [(0, 0), (16, 0), (32, 0)]
 # images by name, with what --at is, and the address that the note names
 CASES = [
@@ -138,7 +175,6 @@ CASES = [
     ("one loop beside one at --at", image_of_preamble(0x100, [(0, 0), (16, 0x2000)]), 0, None),
     ("two loops that don't agree", image_of_preamble(0x100, [(0, 8), (16, 0x2000)]), 0, None),
     ("no loop", bytes(0x100), 0, None),
-    ("no byte", b"", 0, None),
     ("two loops at odd places", image_of_preamble(0x100, [(3, ODD), (0x43, ODD)]), 0, ODD),
     ("a tie", image_of_preamble(0x100, [(0, 0x800), (16, 0x900), (32, 0x800), (48, 0x900)]), 0, 0x800),
     ("as many as --at", image_of_preamble(0x100, [(0, 0), (16, 0), (32, 0x800), (48, 0x800)]), 0, 0x800),
@@ -152,6 +188,7 @@ CASES = [
     ("the majority at --at", image_of_preamble(0x100, [(0, 0x2000), (16, 0x2000)]), 0x2000, None),
     ("a second region", image_of_preamble(0x100, [*FIRST_REGION, (64, 0x800), (80, 0x800)]), 0, 0x800),
     ("two loops of further regions", image_of_preamble(0x100, [*FIRST_REGION, (64, 8), (80, 16)]), 0, None),
+    ("loops that lead to searches", LEADS_ON, 0, None),
     ("before storage", image_of_preamble(0x100, [(0x40, -8), (0x60, -8)]), 0, -8),
     ("one loop before storage", image_of_preamble(0x100, [(0x40, -8)]), 0, -8),
     ("past the largest storage", image_of_preamble(0x100, [(0, 0xFFFF08), (16, 0xFFFF08)]), 0, None),
@@ -173,7 +210,8 @@ NONE_BY = {
 def found(program, image, *words):
     """What `find` says, without the notes on programs."""
     ran = run(program, "find", *DEVICE, *words, given=image)
-    notes = [line for line in ran.error.splitlines(True) if "no program found" not in line]
+    others = ("note: no program found", "note: storage has")
+    notes = [line for line in ran.error.splitlines(True) if not line.startswith(others)]
     return ran.status, "".join(notes)
 
 
@@ -258,7 +296,9 @@ def check_noise(checks, program, random):
             image[offset : offset + 16] = loop_at(offset, fits)
         at = random.choice([0, *begins])
         image, note = bytes(image), note_of(image, at)
-        checks.expect(f"image {number}", (0, note), found(program, image, "--at", f"{at:X}"))
+        # some of the shortest are text
+        words = ["--raw", "--at", f"{at:X}"]
+        checks.expect(f"image {number}", (0, note), found(program, image, *words))
         noted += bool(note)
     checks.expect_that("some images get a note, others don't", 9 < noted < IMAGES - 9, noted)
     image = random.randbytes(0x40000)
@@ -281,30 +321,26 @@ def check_decks(checks, program):
         checks.expect(f"deck {' '.join(words)}", (status, wanted), (ran.status, notes))
 
 
-def check_texts(checks, program):
-    image = taken_apart(text_of(SEARCH_LOOP))[1]
-    digits = image.hex()
-    for name, text, note in [
-        ("digits", digits, IS_TEXT),
-        ("digits in capitals, blanks and line ends", f"{digits[:9].upper()} \t\r\n00", IS_TEXT),
-        ("one digit", "0", IS_TEXT),
-        ("an address without bytes", "00000000:\n", IS_TEXT),
-        ("blanks", " \n\r\t", ""),
-        ("a colon alone", ":", ""),
-        ("words", "0123 no image\n", ""),
-        ("digits and a byte that isn't text", "31000900\0", ""),
-        ("a dump and a byte that isn't text", "00000000: 3100 0900 \x7f\n", ""),
-    ]:
-        given = text.encode()
-        checks.expect(name, (0, note), found(program, given))
-        ran = run(program, "deck", *DEVICE, "--start", "800", "--open", given=given)
-        checks.expect(f"{name}, a deck", (0, note), (ran.status, ran.error))
-        ran = run(program, "deck", *DEVICE, "--start", "0", "--least", given=given)
-        checks.expect_that(f"{name}, the least job", ran.error.endswith(note), ran)
+def check_swapped(checks, program):
+    """Images whose words a PC has swapped, with loops that then agree, and with one alone."""
+    image = core()
+    swapped = b"".join(image[at : at + 4][::-1] for at in range(0, len(image), 4))
+    wanted = (0, SWAPPED.format(8))
+    checks.expect("swapped words", wanted, found(program, swapped))
+    checks.expect("swapped words, placed", wanted, found(program, swapped, "--at", f"{BEGINS:X}"))
+    checks.expect("swapped words of one loop", (0, note_of(swapped[:0x100])), found(program, swapped[:0x100]))
+    checks.expect_that("one loop isn't enough", "swapped" not in note_of(swapped[:0x100]), swapped)
+    dump = run("od", "-Ax", "-tx4", "-v", given=image).output.encode()
+    checks.expect("a dump with swapped words", wanted, found(program, dump))
+    dump = run("od", "-Ax", "-tx4", "-v", "--endian=big", given=image).output.encode()
+    checks.expect("a dump with words as they are", (0, note_of(image)), found(program, dump))
 
 
 def check_forms(checks, program):
     """Files of another form, by how they begin."""
+    tape = "note: this is {}, with headers between its blocks; take its first block out by tail -c +{} | head -c {}\n"
+    aws, simh = tape.format("an AWS tape of Hercules", 7, 300), tape.format("a tape of SimH", 5, 300)
+    block, end = b"\0" * 299 + b"\1", b"\0\0\x2C\x01\x40\0"
     for name, front, note in [
         ("gzip", gzip.compress(bytes(64)), "note: this is compressed by gzip; unpack it first\n"),
         ("two bytes of gzip", b"\x1F\x8B", "note: this is compressed by gzip; unpack it first\n"),
@@ -315,6 +351,19 @@ def check_forms(checks, program):
             "note: this is an object deck; link and load it first\n",
         ),
         ("no object deck", b"\x02" + "ESB".encode("cp037"), ""),
+        ("no byte", b"", "note: the image is empty\n"),
+        ("an AWS tape", b"\x2C\x01\0\0\xA0\0" + block + end, aws),
+        ("a part of an AWS tape", b"\x2C\x01\0\0\xA0\0" + block + end[:3], ""),
+        ("another length on a tape", b"\x2D\x01\0\0\xA0\0" + block + end, ""),
+        ("no record on a tape", b"\x2C\x01\0\0\x20\0" + block + end, ""),
+        ("a tape of SimH", b"\x2C\x01\0\0" + block + b"\x2C\x01\0\0", simh),
+        (
+            "a tape of SimH with an odd block",
+            b"\x2B\x01\0\0" + block + b"\x2B\x01\0\0",
+            simh.replace("300", "299"),
+        ),
+        ("no tape of SimH", b"\x2C\x01\0\0" + block + b"\x2C\x01\0\1", ""),
+        ("a tape of no block", bytes(64), ""),
     ]:
         checks.expect(name, (0, note), found(program, front))
 
@@ -326,5 +375,5 @@ def check(checks, built):
     check_cuts(checks, program, random)
     check_noise(checks, program, random)
     check_decks(checks, program)
-    check_texts(checks, program)
+    check_swapped(checks, program)
     check_forms(checks, program)

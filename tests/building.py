@@ -104,6 +104,13 @@ def version():
     return re.search(r"(?m)^VERSION = (.*)$", (ROOT / "Makefile").read_text())[1]
 
 
+def most_bytes(target):
+    """The size that README's table of builds gives for what a target of make makes."""
+    rows = re.findall(r"(?m)^\|.*\|$", (ROOT / "README.md").read_text())
+    [row] = [row for row in rows if re.search(rf"`make {target}`.* MB \|$", row)]
+    return int(float(row.split(" | ")[-1].split()[0]) * 1_000_000)
+
+
 def version_of(header):
     return re.search(r'(?m)^#define CHANV_VERSION "(.*)"$', header.read_text())[1]
 

@@ -79,7 +79,7 @@ def linked(folder, made, *flags):
     # ar itself asks LLVM's plugin, if there is one, which can't read what rustc's newer LLVM wrote
     must_succeed("gcc-ar", "rs", folder / "libchanv.a", folder / "chanv_c.o")
     (folder / "shown.map").write_text(SHOWN)
-    soname = f"libchanv.so.{version().rpartition('.')[0]}"
+    soname = f"libchanv.so.{version().split('.')[0]}"
     how = [f"-soname,{soname}", f"--version-script={folder / 'shown.map'}", "--gc-sections"]
     whole = ["-Wl,--whole-archive", folder / "libchanv.a", "-Wl,--no-whole-archive"]
     shared = folder / f"libchanv.so.{version()}"

@@ -7,6 +7,10 @@ checksums of Debian's crate. The archive has a lock and its pages, nothing in it
 whom it was packed, and by itself `make dist` puts it in out/. Without cargo or the crates the test
 is left out, by its name.
 
+With binutils and what every system has, `make` and `make check` of the archive build and try
+program and library, and `make install` puts there what it puts there from the checkout. Its README
+begins with the line to type, and its links lead somewhere.
+
 The package also has a library for Rust. The example of its first page runs. Programs of another
 package use it: rust/judge.rs answers about the example decks as the program does, rust/ask.rs gets
 each fault and each refusal, as rust/ask.out has them, rust/memory.rs refuses each growth of memory
@@ -19,17 +23,22 @@ import tarfile
 import tempfile
 from pathlib import Path
 
-from building import HERE, ROOT, must_succeed, version
+from building import HERE, ROOT, most_bytes, must_succeed, version
 from cargo import missing, stripping
 from examples import EXAMPLES, FOLDERS, decks_of, verdicts_of
+from links_and_sizes import broken_links
 from running import Ran, run, text_of
 
 NAME, ARCHIVE = f"chanv-{version()}-not-proved", "packed.tar.gz"
 # what cargo finds on its path besides itself
 TOOLS = ["cc", "ld"]
 SUMS = ".cargo-checksum.json"
+# what its Makefile calls besides
+MAKES = "make ar as objcopy chmod cmp cp cut find install ln mkdir rm sed sort tr".split()
 # files of the archive, besides those of crates
-PACKED = ["Cargo.lock", "Cargo.toml", "README.md", "CHANGELOG.md", ".cargo/config.toml"]
+PACKED = ["Cargo.lock", "Cargo.toml", "README.md", "Makefile", "install.mk", ".cargo/config.toml"]
+# what `make install` puts beside share/ and the shared library
+BUILT = ["bin/chanv", "include/chanv.h", "lib/libchanv.a", "lib/pkgconfig/chanv.pc"]
 # mode, time and owner of each file there
 ABOUT = (0o644, 0, 0, 0, "", "")
 
@@ -80,7 +89,10 @@ MISTAKES = [
     ("chanv::take_in(&job.source, &[area])?;", "takes 3 arguments but 2"),
     ("let _ = Program::default();", "no function or associated item named `default`"),
     ("let _ = Program(Default::default());", "private field"),
-    ("table.push(Row(program.clone()));", "private field"),
+    (
+        "table.push(Row { program: program.clone(), stores: area, keeps: area });",
+        "fields `program`, `stores` and `keeps` of struct `Row` are private",
+    ),
     (
         "let mut bytes = vec![0; 8]; let source = Source::new(&bytes, 0, Device::D2311);"
         " bytes[0] = 1; chanv::needs(&source)?;",
@@ -103,11 +115,15 @@ def tools_in(folder):
     return folder
 
 
-def unpack(room):
-    """Unpacks what `make dist` packs. Gives the words that go before a command which is to find
-    nothing but these tools, and an empty HOME."""
+def pack(room):
+    """Unpacks in a folder what `make dist` packs."""
     must_succeed("make", "-C", ROOT, "dist", f"DIST={room / ARCHIVE}", timeout=None)
     must_succeed("tar", "-xzf", room / ARCHIVE, "-C", room)
+
+
+def alone_in(room):
+    """The words that go before a command which is to find nothing but these tools, and an empty
+    HOME."""
     home, path = room / "home", tools_in(room / "tools")
     home.mkdir()
     return ["env", "-i", f"HOME={home}", f"PATH={path}"]
@@ -132,9 +148,51 @@ def check_archive(checks, archive):
     checks.expect("mode, time and owner of its files", {ABOUT}, about)
     # by RFC 1952 four bytes say when; no flag says that a name follows
     checks.expect("time and name in its head", bytes(5), archive.read_bytes()[3:8])
+    size = archive.stat().st_size
+    checks.expect_that("the size of the archive", size <= most_bytes("dist"), size)
     ran = run("make", "-n", "-C", ROOT, "dist")
     wanted = f"rustc/dist.py {version()} out/{NAME}.tar.gz\n"
     checks.expect_that("where make dist packs it", wanted in ran.output, ran)
+
+
+def files_in(folder):
+    """The files and links of a folder: the bytes of each."""
+    found = {str(it.relative_to(folder)): it for it in folder.rglob("*") if not it.is_dir()}
+    return {name: it.read_bytes() for name, it in found.items()}
+
+
+def check_make(checks, room, alone):
+    """`make`, `make check`, `make install` and `make uninstall` of the archive, and its README."""
+    folder, stage, checkout = room / NAME, room / "stage", room / "checkout"
+    for tool in MAKES:
+        (room / "tools" / tool).symlink_to(shutil.which(tool))
+    first, *_ = text_of(folder / "README.md").splitlines()
+    checks.expect_that("README begins with a line to type", first.startswith("    make && "), first)
+    checks.expect("dead links of README", [], broken_links(folder / "README.md"))
+    steps = re.findall(r"make(?: \w+)?", first)
+    checks.expect("its steps", ["make", "make check", "make install"], steps)
+    for step in steps:
+        ran = run(*alone, *step.split(), f"DESTDIR={stage}", "PREFIX=/p", cwd=folder, timeout=None)
+        checks.expect_that(f"{step} of the archive", ran.status == 0, ran)
+        if ran.status != 0:
+            return
+    must_succeed("make", "-s", "-C", ROOT, "share", f"DESTDIR={checkout}", "PREFIX=/p")
+    wanted, seen = files_in(checkout / "p"), files_in(stage / "p")
+    others = {name: seen.pop(name) for name in [*seen] if not name.startswith("share/")}
+    checks.expect("what share/ lacks or has besides", [], sorted(wanted.keys() ^ seen.keys()))
+    other = [name for name in wanted if wanted[name] != seen.get(name)]
+    checks.expect("files of share/ that are others than in the checkout", [], other)
+    shared = [name for name in others if name.startswith("lib/libchanv.so")]
+    checks.expect("what else is installed", BUILT, sorted({*others} - {*shared}))
+    checks.expect("names of the shared library", 3, len(shared))
+    checks.expect("how many shared libraries these name", 1, len({others[it] for it in shared}))
+    said = Ran(0, f"chanv {version()} (not proved)\n")
+    checks.expect("the installed program", said, run(stage / "p/bin/chanv", "--version"))
+    page = others["lib/pkgconfig/chanv.pc"].decode()
+    checks.expect_that("chanv.pc says so too", ", not proved\n" in page, page)
+    words = ["make", "uninstall", f"DESTDIR={stage}", "PREFIX=/p"]
+    checks.expect("make uninstall", 0, run(*alone, *words, cwd=folder).status)
+    checks.expect("what it leaves", {}, files_in(stage))
 
 
 def check_page(checks, folder, alone):
@@ -204,7 +262,8 @@ def check(checks, _built):
         return
     with tempfile.TemporaryDirectory() as room:
         room = Path(room)
-        alone = unpack(room)
+        pack(room)
+        alone = alone_in(room)
         check_archive(checks, room / ARCHIVE)
         words = ["cargo", "install", "--offline", "--quiet", "--path", "chanv"]
         ran = run(*alone, *words, cwd=room / NAME, timeout=None)
@@ -222,3 +281,4 @@ def check(checks, _built):
         checks.expect("the verdicts of the examples", wanted, ran.output.splitlines())
         check_page(checks, room / NAME, alone)
         check_outside(checks, room, alone, program)
+        check_make(checks, room, alone)

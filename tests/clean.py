@@ -3,6 +3,9 @@
 debootstrap makes each from where apt is set up to take packages from. The checkout is copied in,
 and the lines after `Without the kit` and after `With the kit` are typed. With the kit, which is
 bound in to be read only, what takes a proof isn't typed; and in place of all tests some are run.
+What `make dist` packs is unpacked there too. After the line of its README for apt it is built,
+checked and installed without a network, and a C program is linked with what is installed. And the
+packages of the test `deb` are installed, tried from C and Python, and removed without a trace.
 Each release is left out, by its name, if this isn't the superuser, if there is no debootstrap or if
 no package comes.
 """
@@ -14,18 +17,39 @@ import tempfile
 from concurrent.futures import ThreadPoolExecutor
 from pathlib import Path
 
+import deb
 from building import ROOT, must_succeed
+from cargo import missing as cannot_pack
+from cargo_alone import NAME, pack
 from expecting import Checks
 from running import run, text_of
 
-README = ROOT / "README.md"
+README, OF_ARCHIVE = ROOT / "README.md", ROOT / "rustc/archive/README.md"
 RELEASES = ["bookworm", "trixie"]
 # what each block begins after, and what is tried once its lines are typed
-WITHOUT, WITH = "Without the kit", "With the kit"
+WITHOUT, WITH, ARCHIVE = "Without the kit", "With the kit", "On Debian 12 or 13:"
+# what isn't in a README
+PACKAGES = "the packages"
 TESTS = "steps counting manual versions pages words ranges refused_decks wheel linking"
-THEN = {WITHOUT: f"tests/run --rustc {TESTS}", WITH: "tests/run steps"}
+WITHOUT_NETWORK = """unshare --net make check
+make install && ldconfig
+cc -std=c11 -o ask /usr/local/share/doc/chanv/examples/c/ask.c -lchanv && ./ask
+make uninstall && test -z "$(find /usr/local -type f)\""""
+INSTALLED = """apt-get install -y gcc libc6-dev pkg-config /deb/*.deb
+chanv verify /usr/share/doc/chanv/examples/search-loop.deck
+cp /usr/share/doc/chanv/examples/c/ask.c .
+cc -std=c11 -o ask ask.c $(pkg-config --cflags --libs chanv) && ./ask
+python3 -c 'import chanv; assert chanv.library_version().startswith(chanv.__version__)'
+dpkg --purge chanv libchanv-dev python3-chanv $(cd /deb && ls | grep -o "^libchanv[0-9]*")
+test -z "$(find /usr /etc /var/lib/dpkg/info -name '*chanv*')\""""
+THEN = {
+    WITHOUT: f"tests/run --rustc {TESTS}",
+    WITH: "tests/run steps",
+    ARCHIVE: WITHOUT_NETWORK,
+    PACKAGES: INSTALLED,
+}
 # the lines that are typed; others take a proof or run all tests
-TYPED = re.compile(r"apt-get |make (try|rustc)\b|out/")
+TYPED = re.compile(r"apt-get |make (try|rustc)\b|make$|out/")
 LAST = 12
 
 # mounts in a space of its own, so that nothing stays mounted; the first word is the new root
@@ -40,8 +64,10 @@ exec chroot "$1" /usr/bin/env -i HOME=/root DEBIAN_FRONTEND=noninteractive \\
 
 
 def block_of(heading):
-    """The lines that README has a reader type after the words, without their comments."""
-    after = text_of(README).partition(heading)[2]
+    """The lines that a README has a reader type after the words, without their comments."""
+    if heading == PACKAGES:
+        return []
+    after = text_of(OF_ARCHIVE if heading == ARCHIVE else README).partition(heading)[2]
     found = re.search(r"(?m)(?:^    .*\n)+", after)
     lines = found[0].splitlines() if found else []
     return [re.sub(r"  +#.*", "", line).strip() for line in lines]
@@ -76,17 +102,35 @@ def kit():
     return str(Path(run("rt", "doc").output.strip()).parent) if shutil.which("rt") else ""
 
 
-def typed(root, lines, kit=""):
-    """Types lines in the checkout of a new system, and stops at the first that fails."""
-    script = "\n".join(["set -v; cd /chanv", *lines])
+def lacks(heading, kit):
+    """Why a block can't be tried here, or None."""
+    if heading == WITH and not kit:
+        return "no rt"
+    return {ARCHIVE: cannot_pack, PACKAGES: deb.missing}.get(heading, lambda: None)()
+
+
+def prepare(heading, root, built):
+    """Puts into a new system what is packed, and gives the folder in which the lines are typed."""
+    if heading == PACKAGES:
+        deb.pack(built, root)
+    if heading != ARCHIVE:
+        return "chanv"
+    pack(root)
+    return NAME
+
+
+def typed(root, lines, kit="", folder="chanv"):
+    """Types lines in a folder of a new system, and stops at the first that fails."""
+    script = "\n".join([f"set -v; cd /{folder}", *lines])
     words = ["unshare", "--mount", "sh", "-c", ENTER, "sh", root, script]
     return run(*words, env={**os.environ, "KIT": kit}, timeout=None)
 
 
-def check_block(checks, release, root, heading, kit):
+def check_block(checks, release, root, heading, kit, folder):
     lines = [line for line in block_of(heading) if TYPED.match(line)]
-    checks.expect_that(f"README's lines: {heading}", len(lines) > 1, lines)
-    ran = typed(root, [*lines, THEN[heading]], kit)
+    has_lines = len(lines) > 1 or heading == PACKAGES
+    checks.expect_that(f"README's lines: {heading}", has_lines, lines)
+    ran = typed(root, [*lines, THEN[heading]], kit, folder)
     if ran.status == 0:
         checks.passed += 1
     else:
@@ -105,30 +149,31 @@ def made(release, root):
     return None if typed(root, ["apt-get -q update"]).status == 0 else "apt-get update failed"
 
 
-def checks_of(release):
+def checks_of(release, built):
     checks = Checks("clean")
     with tempfile.TemporaryDirectory(prefix=f"{release}-") as room:
         new = Path(room, "new")
         if why := made(release, new):
             checks.skip(release, why)
             return checks
-        for heading, its in ((WITHOUT, ""), (WITH, kit())):
-            if heading == WITH and not its:
-                checks.skip(f"{release}, {WITH}", "no rt")
+        for heading in THEN:
+            its = kit() if heading == WITH else ""
+            if why := lacks(heading, its):
+                checks.skip(f"{release}, {heading}", why)
                 continue
             root = Path(room, "tried")
             must_succeed("cp", "-a", new, root)
-            check_block(checks, release, root, heading, its)
+            check_block(checks, release, root, heading, its, prepare(heading, root, built))
             shutil.rmtree(root)
     return checks
 
 
-def check(checks, _built):
+def check(checks, built):
     if why := missing():
         checks.skip("all of it", why)
         return
     with ThreadPoolExecutor() as beside:
-        for done in beside.map(checks_of, RELEASES):
+        for done in beside.map(lambda release: checks_of(release, built), RELEASES):
             checks.passed += done.passed
             checks.failed += done.failed
             checks.skipped += done.skipped

@@ -42,6 +42,7 @@ from judging import (  # noqa: E402
     command_at,
     guarded,
     path_to,
+    successors,
 )
 from writing import deck_of, job_of  # noqa: E402
 
@@ -54,6 +55,14 @@ PARTED = re.compile(
     r"help: if (\w+) should use what is read there, end the program at (\w+) by switching off "
     r"chain command, run that part, and then judge the part from \1 on"
 )
+CUT = re.compile(
+    r"help: (\w+) has been carried out by then: end the program at (\w+) by switching off chain "
+    r"command, run that part, and then judge the part from (\w+) on"
+)
+CHAINED = re.compile(
+    r"help: (\w+) chains data to here; switch chain data off there if its data ends with it"
+)
+SET_FILE_MASK = 0x1F
 # what comes before a line of a deck with one of these words
 BEFORE = {"extent": "fetch|store|storage", "fetch": "store|storage", "store": "storage"}
 
@@ -143,6 +152,51 @@ def parting_of(answer, place, path):
     return None if is_search else (path[-1].address, last.address)
 
 
+def leads_to(job, faults, start, address, without=None):
+    """Whether a place leads to an address, also if no place at another address leads on."""
+    seen, left = set(), [start]
+    while left:
+        place = left.pop()
+        if place in seen or faults[place] or place.address == without:
+            continue
+        seen.add(place)
+        after = successors(place, ccw_at(job.storage, place.address))
+        if any(it.address == address for it in after):
+            return True
+        left += after
+    return False
+
+
+def cut_of(answer, path, taker):
+    """Where a seek that has been carried out may end a program, and where the rest then begins."""
+    job, faults = answer.job, answer.faults
+
+    def is_command(place):
+        ccw = ccw_at(job.storage, place.address)
+        return bool(ccw) and not ccw.is_transfer()
+
+    seeks = [at for at, it in enumerate(path[:-1]) if it.address == taker and it.entered == FRESH]
+    if not seeks or ccw_at(job.storage, taker).code == SET_FILE_MASK:
+        return None
+    [at, *_] = seeks
+    firsts = [it for it in range(at + 1, len(path)) if path[it].entered == FRESH and is_command(path[it])]
+    if not firsts:
+        return None
+    [*_, last] = filter(is_command, path[: firsts[0]])
+    changing = path[-1]
+    is_again = leads_to(job, faults, changing, taker)
+    if is_again or leads_to(job, faults, path[0], changing.address, last.address):
+        return None
+    return last.address, path[firsts[0]].address
+
+
+def chained_from(answer, path):
+    """The CCW that chains data to the end of a path, if one does."""
+    ccws = [(it, ccw_at(answer.job.storage, it.address)) for it in path[:-1]]
+    before = [it for it, ccw in ccws if ccw and not ccw.is_transfer()]
+    return before[-1] if before and path[-1].entered != FRESH else None
+
+
 def help_of(answer):
     """The lines of help that the model wants."""
     path, reason = offending(answer)
@@ -158,6 +212,19 @@ def help_of(answer):
                 "by switching off chain command, run that part, and then judge the part from "
                 f"{user:06X} on"
             )
+        cut = cut_of(answer, path, address) if what == "argument of" else None
+        if cut:
+            last, first = cut
+            yield (
+                f"help: {address:06X} has been carried out by then: end the program at {last:06X} "
+                "by switching off chain command, run that part, and then judge the part from "
+                f"{first:06X} on"
+            )
+    elif reason == "zero-count" and (before := chained_from(answer, path)):
+        yield (
+            f"help: {before.address:06X} chains data to here; switch chain data off there if its "
+            "data ends with it"
+        )
     else:
         yield from quoted_by(answer, place, reason)
     yield f"help: chanv explain {reason}"
@@ -196,10 +263,14 @@ def with_line(deck, line):
 
 
 def without_chain_command(deck, address):
-    """The deck with chain command off in a CCW."""
+    return without_flag(deck, address, CHAIN_COMMAND)
+
+
+def without_flag(deck, address, flag):
+    """The deck with a flag off in a CCW."""
     [digits] = re.findall(rf"(?m)^put {address} (\w+)$", deck)
     flags = int(digits[8:10], 16)
-    off = f"{digits[:8]}{flags & ~CHAIN_COMMAND:02X}{digits[10:]}"
+    off = f"{digits[:8]}{flags & ~flag:02X}{digits[10:]}"
     return deck.replace(f"put {address} {digits}\n", f"put {address} {off}\n")
 
 
@@ -217,6 +288,7 @@ def check_cures(checks, program, name, deck, answer, said, tried):
     pair = f"{place.address:06X}", reason
     for line in said:
         quoted, parted = QUOTED.fullmatch(line), PARTED.fullmatch(line)
+        cut, chained = CUT.fullmatch(line), CHAINED.fullmatch(line)
         if quoted:
             left, _ = offences_said(program, with_line(deck, quoted[1]))
             # a seek to a cylinder that is granted may have a wrong head
@@ -228,6 +300,18 @@ def check_cures(checks, program, name, deck, answer, said, tried):
             left, _ = offences_said(program, without_chain_command(deck, last))
             checks.expect_that(f"{name} that ends at {last}", pair not in left, left)
             tried[f"{reason}, parted"] += 1
+        elif cut:
+            _, last, first = cut.groups()
+            left, _ = offences_said(program, without_chain_command(deck, last))
+            checks.expect_that(f"{name} that ends with the seek at {last}", pair not in left, left)
+            rest = re.sub("(?m)^start .*$", f"start {first}", deck)
+            left, _ = offences_said(program, rest)
+            checks.expect_that(f"{name} from {first} on", pair not in left, left)
+            tried[f"{reason}, cut"] += 1
+        elif chained:
+            left, _ = offences_said(program, without_flag(deck, chained[1], CHAIN_DATA))
+            checks.expect_that(f"{name} without a chain from {chained[1]}", pair not in left, left)
+            tried[f"{reason}, chained"] += 1
         elif ELSEWHERE.fullmatch(line):
             tried[f"{reason}, elsewhere"] += 1
 
@@ -390,5 +474,5 @@ def check(checks, built):
     changes = [f"changes-{what}" for what in ("ccw", "argument")]
     kinds = [f"{reason}, {how}" for reason in changes for how in ("elsewhere", "parted")]
     kinds += ["store-not-lent", "fetch-not-lent", "inhibited", "weakens-mask", "seek-outside"]
-    kinds += ["unseen", "all seen"]
+    kinds += ["changes-argument, cut", "zero-count, chained", "unseen", "all seen"]
     checks.expect("each kind of cure and of note comes", sorted(kinds), sorted(tried))

@@ -10,7 +10,8 @@ groups, and 32 characters in EBCDIC; lines like the line before are one line tha
 
 Then come texts by hand: what their bytes are, and what is said of gaps and of lines that are passed
 over; lines that are refused, with the character that the caret is under; options that override the
-dump's address and size; texts that are no dump; and inputs that come in pieces.
+dump's address and size; texts that are no dump, which are refused unless --raw is given; and inputs
+that come in pieces. The test `texts` has the forms of other tools.
 """
 
 import codecs
@@ -38,6 +39,7 @@ FORMS = [
     "xxd -c 256 -g 1",
     "xxd -c 11 -g 0",
     "xxd -a",
+    "xxd -E",
     "hexdump -C",
     "hexdump -v -C",
     "od -Ax -tx1",
@@ -52,7 +54,8 @@ FORMS = [
     "objdump -s -b binary -m s390",
 ]
 # forms that are refused at a line, why, and a word of the text that the caret is under
-DIGIT, HALF = "not a hexadecimal digit", "a byte has two digits"
+DIGIT = "not a hexadecimal digit; a text column or a comment begins with |, >, * or ;"
+HALF = "a byte has two digits"
 STEP = "the bytes above don't end here"
 GAP = f"{STEP}; if none is missing, put an empty line between"
 SWAPPED = (
@@ -61,19 +64,28 @@ SWAPPED = (
 OCTAL = "not an octal digit, but addresses of seven digits are octal"
 DIFFERS = "another line has another byte at this address"
 AGAIN = "the repeat goes over bytes of another line"
+DECIMAL = "the addresses seem to be decimal; dump with hexadecimal ones"
 REPEAT = "it isn't known what is repeated, or how often"
 LINE = "no address, no repeat and no comment"
 HIGH = "storage ends at FFFFFF"
 APART = "more than eight blanks before a byte, so others may be missing"
+NONE = "no line of this text is an address with bytes"
+LABEL = "a label isn't a hexadecimal number, and the address comes next"
+LIKE = "no address, but else like the first line with one; a comment begins with ; or *"
+# what follows if no line is read before
+EXPECTED = "expected a line such as {}, or --raw if the text itself is storage\n"
+TYPED_LINE, COLON_LINE = "000800  07000900 40000006", "00000800: 0700 0900 4000 0006"
+# what is said of addresses of seven octal digits
+OCTAL_NOTE = "note: the addresses have seven digits, all octal, and are read as octal\n"
 REFUSED_FORMS = [
     ("od -Ax -x", SWAPPED),
     ("od -tx2", SWAPPED),
     ("hexdump", SWAPPED),
     ("hexdump -x", SWAPPED),
     ("xxd -e", DIGIT),
-    ("xxd -E", DIGIT),
     ("xxd -b", DIGIT),
-    ("od -v -Ad -tx1", STEP),
+    ("od -v -Ad -tx1", DECIMAL),
+    ("xxd -d", DECIMAL),
     ("od -v", STEP),
 ]
 
@@ -107,7 +119,7 @@ def dump_by(form, image):
 
 def check_forms(checks, program, random):
     for name, image in images(random):
-        expected = both(program, image)
+        bare = both(program, image, "--raw")
         for form in FORMS:
             tool = form.split()[0]
             if not shutil.which(tool):
@@ -116,21 +128,24 @@ def check_forms(checks, program, random):
             if "-endian" in form and len(image) % 8:
                 continue
             dump = dump_by(form, image)
+            is_octal = tool == "od" and "-A" not in form
+            beside = OCTAL_NOTE * is_octal
+            expected = [ran._replace(error=beside + ran.error) for ran in bare]
             checks.expect(f"{name} by {form}", expected, both(program, dump))
             # line ends, blanks and a byte-order mark as other systems have them
             dump = re.sub(rb"(?m)^(\w+:?) ", rb"\1\t", dump).replace(b"\n", b"\r\n")
             dump = b"\xef\xbb\xbf" + dump
             checks.expect(f"{name} by {form}, elsewhere", expected, both(program, dump))
         dump = "".join(abend_dump(image, 0)).encode()
-        checks.expect(f"{name} in an ABEND dump", expected, both(program, dump))
+        checks.expect(f"{name} in an ABEND dump", bare, both(program, dump))
     core = (EXAMPLES / "core.bin").read_bytes()
     for form, why in REFUSED_FORMS:
         if not shutil.which(form.split()[0]):
             continue
         dump = run(*form.split(), given=core).output.encode()
-        said = re.compile(rf"chanv: dump line \d+: {re.escape(why)}\nfound .*\n +\^\n")
+        said = rf"chanv: dump line \d+: {re.escape(why)}\nfound .*\n +\^\n(expected .*\n)?"
         for ran in both(program, dump):
-            is_refused = ran[:2] == (2, "") and said.fullmatch(ran.error)
+            is_refused = ran[:2] == (2, "") and re.fullmatch(said, ran.error)
             checks.expect_that(f"{form} is refused", is_refused, ran)
 
 
@@ -181,14 +196,15 @@ def check_hercules(checks, program, random):
     checks.expect("Hercules displays each image", len(shown), len(parts))
     for at, ((name, image), part) in enumerate(zip(shown, parts), 1):
         begins = ["--at", f"{at * DISPLAYED_AT:X}"]
-        expected = both(program, image, *begins)
+        expected = both(program, image, *begins, "--raw")
         lines = "".join(re.findall("R:.*\n", part))
         checks.expect(f"{name} by Hercules", expected, both(program, lines.encode()))
         placed = both(program, lines.encode(), "--at", "0")
-        checks.expect(f"{name} by Hercules, placed", both(program, image), placed)
+        bare = both(program, image, "--raw")
+        checks.expect(f"{name} by Hercules, placed", bare, placed)
         # the command comes before, and others and messages after
-        log = f"r {begins[1]}.8\n{lines}quit\nHHCIN900I Begin Hercules shutdown\n"
-        passed = "note: lines without an address, passed over: 3\n"
+        log = f"r {begins[1]}.8\n{lines}stop\nquit\nHHCIN900I Begin Hercules shutdown\n"
+        passed = "note: lines without an address, passed over: 4\n"
         expected = [ran._replace(error=passed + ran.error) for ran in expected]
         checks.expect(f"{name} in a log of Hercules", expected, both(program, log.encode()))
 
@@ -208,11 +224,12 @@ CSECT 1 OF 1
 TRACE TABLE
 PAGE 0002
 END OF DUMP
-HHC00007I entered
-r 800.8
-quit
+because the count is zero
+no 000818 invalid-code
+yes
 """
 PASSED = "note: lines without an address, passed over: {}\n"
+SHORTER = "note: dump line {} has an address of fewer digits than the line before\n"
 
 # typed texts: the bytes by their addresses, and what is said
 TYPED = [
@@ -241,7 +258,8 @@ TYPED = [
         "gaps",
         "000800 0700090040000006\n000810 06 00\n000814 FF\n\n816 EE\n",
         {0x800: "0700090040000006", 0x810: "0600", 0x814: "FF", 0x816: "EE"},
-        "note: zeros in gaps of the dump: 11, at 000808-00080F, 000812-000813, 000815\n",
+        SHORTER.format(5)
+        + "note: zeros in gaps of the dump: 11, at 000808-00080F, 000812-000813, 000815\n",
     ),
     (
         "many gaps",
@@ -298,7 +316,8 @@ TYPED = [
     ),
     ("the text of blanks", "000: 2020  \n002: 205a   Z\n004: 5a20  Z\n", {0: "2020205A5A20"}, ""),
     ("digits that are no text", "000: 4142  005A\n", {0: "4142005A"}, ""),
-    ("octal", "0004000 07 00\n0004002 09\n", {0x800: "070009"}, ""),
+    ("octal", "0004000 07 00\n0004002 09\n", {0x800: "070009"}, OCTAL_NOTE),
+    ("seven typed digits", "0000700  07 00\n", {0o700: "0700"}, OCTAL_NOTE),
     ("seven digits with a colon", "0004000: 07 00\n", {0x4000: "0700"}, ""),
     ("seven digits that aren't octal", "0000800 07\n0000801 08\n", {0x800: "0708"}, ""),
     ("an end", "000800 0700\n000802\n", {0x800: "0700"}, ""),
@@ -313,7 +332,8 @@ TYPED = [
 
 # a text, the number of the line that is refused, why, and the column of the caret
 WRONG = [
-    ("a letter in a byte", "800 07\n801 0O\n", 2, HALF, 4),
+    ("a letter in a byte", "800 07\n801 0O\n", 2, DIGIT, 5),
+    ("a letter after a digit", "800 07\n801 4G\n", 2, DIGIT, 5),
     ("a letter between bytes", "800 07\n801 08 g0\n", 2, DIGIT, 7),
     ("a letter in the first line", "800 0700O90040000006\n808 07\n", 1, DIGIT, 8),
     ("half a byte at the end", "800 070\n801 07\n", 1, HALF, 6),
@@ -331,7 +351,8 @@ WRONG = [
     ("a gap of one byte", "800 07 000900 40 0006\n808 08\n", 2, GAP, 0),
     ("a lost byte", f"000 {'11' * 16}\n010 {'22' * 15}\n020 {'33' * 16}\n", 3, GAP, 0),
     ("a lost half", f"000 {'11' * 16}\n010 {'22' * 8}\n020 {'33' * 16}\n", 3, GAP, 0),
-    ("decimal addresses", f"000: {'11' * 16}\n016: {'22' * 16}\n", 2, GAP, 0),
+    ("decimal addresses", f"000: {'11' * 16}\n016: {'22' * 16}\n", 2, DECIMAL, 0),
+    ("decimal addresses from 800 on", f"800: {'11' * 16}\n816: {'22' * 16}\n", 2, DECIMAL, 0),
     ("decimal addresses of seven digits", f"0000000 {'11' * 8}\n0000008 {'22' * 8}\n", 2, OCTAL, 6),
     ("an end before the end", "800 0708\n801\n", 2, STEP, 0),
     ("an end after the end", "800 0708\n803\n", 2, STEP, 0),
@@ -351,9 +372,18 @@ WRONG = [
     ("nine blanks", "800 07000900         40000006\n", 1, APART, 21),
     ("nine blanks in front", "800 07\n801         08\n", 2, APART, 12),
     ("missing words in front", "000804 07\n000820            07000900 *..*\n", 2, APART, 18),
-    ("a number before", "0x800 07\n800 O7\n801 07\n", 2, DIGIT, 4),
-    ("four bytes of the only line", "800 07000900 4O000006\n", 1, HALF, 13),
+    ("four bytes of the only line", "800 07000900 4O000006\n", 1, DIGIT, 14),
+    ("a letter in the first address", "00O800 0700\n000802 09\n", 1, LIKE, 0),
+    ("a letter in a label's address", "A 00O800 07000900\nB 000804 40000006\n", 1, LIKE, 0),
+    ("a label that is a number", "SEEK 000800 07000900 40000006\nB10  000808 03000000 00000001\n", 2, LABEL, 0),
+    ("an address of letters", "; here\nABC 0700\n802 0900\n", 2, LIKE, 0),
+    ("a message among typed lines", "800 07\nHHC00007I entered\n", 2, LINE, 0),
+    ("a wrong row in a log", "R:00000800:K:06=07000900 40000006\nR:0000O810:K:06=07\n", 2, LINE, 0),
 ]
+
+
+# a line that is read
+WHOLE = re.compile(r"(R:|\w+:? *(\w\w)+)")
 
 
 def storage_of(ran):
@@ -378,6 +408,9 @@ def check_typed(checks, program):
     for name, text, number, why, column in WRONG:
         line = text.splitlines()[number - 1].rstrip()
         said = f"chanv: dump line {number}: {why}\nfound {line}\n{' ' * (6 + column)}^\n"
+        is_first = not any(WHOLE.match(line) for line in text.splitlines()[: number - 1])
+        if is_first:
+            said += EXPECTED.format(COLON_LINE if ":" in line else TYPED_LINE)
         for ran in both(program, text.encode()):
             checks.expect(name, Ran(2, "", said), ran)
     # a long line is cut, and so is the caret far behind
@@ -416,32 +449,61 @@ def check_options(checks, program, folder):
     checks.expect("little stack", run(program, *OPEN, given=text), ran)
 
 
+# texts of which no line is read: the line that is refused, why, the column and the nearest form
+DIGITS = "help: xxd -r -p makes an image of digits alone\n"
+OTHERS = [
+    ("plain digits", "3100090040000005\n0800080000000000\n", 1, HIGH, 0, TYPED_LINE, DIGITS),
+    ("plain digits of four bytes", "31000900\n40000005\n", 1, HIGH, 0, TYPED_LINE, DIGITS),
+    ("an address alone", "000800\n000808:\n", 1, NONE, 6, TYPED_LINE, DIGITS),
+    ("short addresses", "\n80 07\n88 08\n", 2, NONE, 2, TYPED_LINE, DIGITS),
+    ("words", "bad dead beef\nadd cafe\n", 1, NONE, 3, TYPED_LINE, ""),
+    ("numbers before words", "2311 becomes\n1000 CCWs\n", 1, DIGIT, 8, TYPED_LINE, ""),
+    ("three bytes and a half", "800 07 00 09 0\n", 1, HALF, 13, TYPED_LINE, ""),
+    ("prose", "It seeks to a cylinder.\n", 1, NONE, 0, TYPED_LINE, ""),
+]
+
+
 def check_others(checks, program, folder):
-    """Texts that aren't dumps are images as they are, and an image may come in pieces."""
-    texts = [ROOT / "README.md", ROOT / "CHANGELOG.md", *sorted(EXAMPLES.glob("*.list"))[:3]]
+    """Texts that aren't dumps are refused, unless --raw says that they are images; other inputs are
+    images as they are; and an image may come in pieces."""
+    for name, text, number, why, column, form, more in OTHERS:
+        line = text.splitlines()[number - 1]
+        said = f"chanv: dump line {number}: {why}\nfound {line}\n{' ' * (6 + column)}^\n"
+        wanted = Ran(2, "", said + EXPECTED.format(form) + more)
+        for ran in both(program, text.encode()):
+            checks.expect(f"{name} are refused", wanted, ran)
+    texts = [ROOT / "README.md", ROOT / "CHANGELOG.md"]
     for name, text in [
         *[(path.name, path.read_bytes()) for path in texts],
-        ("plain digits", b"3100090040000005\n0800080000000000\n"),
-        ("plain digits of four bytes", b"31000900\n40000005\n"),
-        ("an address alone", b"000800\n000808:\n"),
-        ("short addresses", b"80 07\n88 08\n"),
-        ("long addresses", b"000000800 07\n"),
-        ("words", b"bad dead beef\nadd cafe\n"),
-        ("numbers before words", b"2311 becomes\n1000 CCWs\n0190 2314 disk\n1969 a\n"),
-        ("three bytes and a half", b"800 07 00 09 0\n"),
+        *[(name, text.encode()) for name, text, *_ in OTHERS],
+        ("a dump", b"800 07\n"),
+        ("a deck", SEARCH_LOOP.read_bytes()),
+    ]:
+        for ran in both(program, text)[:1]:
+            is_refused = ran[:2] == (2, "") or text == b"800 07\n"
+            checks.expect_that(f"{name} isn't storage", is_refused, ran)
+        expected = text + bytes(-len(text) % 8)
+        ran = run(program, *OPEN, "--raw", given=text)
+        checks.expect(f"{name} as an image", (0, expected), (ran.status, storage_of(ran)))
+    for name, image in [
         ("a control character", b"800 07\n\x01"),
         ("a dump with a zero", b"800 07\n\0"),
+        ("blanks alone", b" " * 64),
+        ("one character alone", b"\x40" * 64),
+        ("a CCW", bytes.fromhex("0700090040000006")),
     ]:
-        ran = run(program, *OPEN, given=text)
-        expected = text + bytes(-len(text) % 8)
-        checks.expect(f"{name} as an image", (0, expected), (ran.status, storage_of(ran)))
-    ran = run(program, "find", *DEVICE, given=SEARCH_LOOP.read_bytes())
+        ran = run(program, *OPEN, given=image)
+        expected = image + bytes(-len(image) % 8)
+        checks.expect(f"{name} is an image", (0, expected), (ran.status, storage_of(ran)))
+    said = "chanv: this is a deck; chanv verify judges it\n"
+    checks.expect("a deck", [Ran(2, "", said)] * 2, both(program, SEARCH_LOOP.read_bytes()))
+    ran = run(program, "find", *DEVICE, "--raw", given=SEARCH_LOOP.read_bytes())
     note = "note: this is a deck; chanv verify judges it\n"
-    checks.expect("a deck", Ran(0, "", note), ran)
+    checks.expect("a deck as an image", Ran(0, "", note), ran)
     dump = b"000800 0700090040000006\n000808 0300000000000001\n"
     script = '{ head -c 5 "$2"; sleep 0.2; tail -c +6 "$2"; } | "$1" "${@:3}"'
     image = b"801 0" + bytes(9000) + dump
-    for name, text in [("dump", dump), ("image", image), ("text", b"words " * 9)]:
+    for name, text in [("dump", dump), ("image", image), ("text", b"words " * 9 + b"\n")]:
         (folder / name).write_bytes(text)
         ran = run_in_bash(script, program, folder / name, *OPEN)
         checks.expect(f"a {name} in pieces", run(program, *OPEN, given=text), ran)

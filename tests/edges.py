@@ -18,6 +18,7 @@ from wide import two_ways_deck
 
 sys.path.insert(0, str(HERE / "model"))
 
+from channel import COMMANDS, MASKS, inhibited  # noqa: E402
 from judging import reachable  # noqa: E402
 from writing import job_of  # noqa: E402
 
@@ -239,16 +240,18 @@ def many_noted(count, more):
     pairs = product((PAST, UNUSED), past)
     notes = [noted([f"{area} {what}" for area in areas], more) for what, areas in pairs]
     yield deck_of([END], past[0] + past[1], 0x10000), "".join(notes)
-    for ccw, last, note in [
-        ("0300000048000001", "0300000008000001", INTERRUPTS),
-        ("0300000040010001", "0300000000010001", f"has 01 {IGNORED}"),
-    ]:
-        lines = [f"{0x800 + 8 * at:06X} {note}" for at in range(count)]
-        yield deck_of([ccw] * (count - 1) + [last]), noted(lines, more)
+    # those that interrupt have one note
+    asking = ["0300000048000001"] * (count - 1) + ["0300000008000001"]
+    who = f"000800 and {count - 1} more interrupt" if count > 1 else "000800 interrupts"
+    yield deck_of(asking), noted([f"{who}{INTERRUPTS.removeprefix('interrupts')}"])
+    ccw, last = "0300000040010001", "0300000000010001"
+    lines = [f"{0x800 + 8 * at:06X} has 01 {IGNORED}" for at in range(count)]
+    yield deck_of([ccw] * (count - 1) + [last]), noted(lines, more)
     # searches, each before a No Operation with chain data on
     ladder = ["3100080040000005", "0300000080000001"] * count + [END]
     lines = [f"{0x808 + 16 * at:06X} {ENDS}" for at in range(count)]
-    yield deck_of(ladder, ["fetch 000800 000005"]), noted(lines, more)
+    once = f"000800 and {count - 1} more search once: no transfer right behind repeats them"
+    yield deck_of(ladder, ["fetch 000800 000005"]), noted(lines, more) + noted([once])
 
 
 def rows_of_notes():
@@ -278,6 +281,44 @@ def rows_of_notes():
     for count, more in more_of.items():
         for deck, notes in many_noted(count, more):
             yield over(deck, YES._replace(error=notes), "why", about=f"{count} notes")
+
+
+def own_mask_deck(ccws, masks):
+    """A deck whose job permits every command, with CCWs, and mask bytes from 0008F0 on."""
+    deck = deck_of(ccws, ["fetch 0008F0 000010"]).replace("mask 00", "mask C0")
+    puts = f"put 0008F0 {bytes(masks).hex().upper():F<16}\nput 0008F8 0000000A00000000\nend\n"
+    return deck.replace("extent 010 019", "extent 000 019").replace("end\n", puts)
+
+
+def own_mask_notes(found):
+    """The notes on commands, each with the mask that inhibits it, of which each mask has one."""
+    first = {}
+    for address, code, mask in found:
+        if COMMANDS[code].mask_class in inhibited(mask):
+            first.setdefault(mask, address)
+    what = "is a command that the program's own mask {:02X} inhibits: a run ends there"
+    notes = [f"{address:06X} {what.format(mask)}" for mask, address in sorted(first.items())]
+    return YES._replace(error=noted(notes))
+
+
+def rows_of_own_masks():
+    """Commands that the program's own mask inhibits: each kind of command behind each mask, none
+    before it; those behind each of two masks; and one to which a loop comes back."""
+    set_mask = "1F0008F{}40000001"
+    codes = [0x1D, 0x05, 0x07, 0x0B, 0x1B, 0x13]
+    behind = [f"{code:02X}0008F840000006" for code in codes]
+    for mask in MASKS:
+        deck = own_mask_deck([behind[1], set_mask.format(0), *behind, END], [mask])
+        found = [(0x810 + 8 * at, code, mask) for at, code in enumerate(codes)]
+        yield over(deck, own_mask_notes(found), "why", about=f"mask {mask:02X}")
+    for one, other in product(MASKS, MASKS):
+        ccws = [set_mask.format(0), behind[0], set_mask.format(1), behind[1], END]
+        found = [(0x808, codes[0], one), (0x818, codes[1], other)]
+        deck = own_mask_deck(ccws, [one, other])
+        yield over(deck, own_mask_notes(found), "why", about=f"masks {one:02X}, {other:02X}")
+    search, back = "310008F840000005", "0800080000000000"
+    loop = [behind[1], set_mask.format(0), search, back, END]
+    yield over(own_mask_deck(loop, [0x40]), own_mask_notes([(0x800, 0x05, 0x40)]), "why")
 
 
 # a program that goes on in what it reads; one that stores over its seek's argument, whose last
@@ -334,6 +375,7 @@ def check(checks, built):
         rows_of_exchanged,
         rows_of_seeks,
         rows_of_notes,
+        rows_of_own_masks,
         rows_of_high_addresses,
     ):
         check_rows(checks, built.chanv(), rows())

@@ -58,7 +58,7 @@ ASKED = [
 
 # what a page says of a case that surprises; the test `library` shows the first
 SAID = [
-    ("EMBEDDING.md", "a row that you filled in yourself can keep, counts as outside even if an area"),
+    ("EMBEDDING.md", "no areas own nothing, and 0 allows nothing"),
     ("MACHINE.md", "Every CCW from which the program may go on is reachable"),
 ]
 
@@ -142,11 +142,12 @@ def check_sentences(checks):
 def check_comments(checks):
     """The numbers in the header's comments: which codes are faults, and how large things may be."""
     header = plain(text_of(HEADER))
-    shown = re.findall(r"(?m)^number (\d+): \S+ \(a fault\)", text_of(ROOT / "tests/c/edges.out"))
+    refusals = text_of(ROOT / "crates/chanv_c/src/refusal.rt")
+    codes = dict(re.findall(r"CHANV_(\w+) = (\d+)", text_of(HEADER)))
+    shown = {int(codes[it]) for it in re.findall(r"JobFault::\w+(?:\(_\))? => (\w+),", refusals)}
     told = re.findall(r"(\d+) to (\d+)(?= are faults)", header)
-    told += re.findall(r"(?<=fault of the job)(?:,| itself \() ?(\d+) to (\d+)", header)
     sets = [{*range(int(first), int(last) + 1)} for first, last in told]
-    checks.expect("the faults", [{int(code) for code in shown}] * 3, sets)
+    checks.expect("the faults", [shown], sets)
     limits = dict(re.findall(r"(\w+) = (\d{4,})", text_of(HEADER) + text_of(ROOT / "c/chanv.c")))
     sizes = {f"{int(limits[it]):,}" for it in ("LARGEST_STORAGE", "CHANV_LARGEST_LIMIT")}
     checks.expect("the sizes", sizes, {*re.findall(r"\d+(?:,\d{3})+", header)})
@@ -193,11 +194,14 @@ def check_answers(checks):
 
 def check_numbers(checks):
     """C has the library's numbers: the header its answers and refusals, c/chanv.c the storage."""
-    enums = re.findall(r"(?s)enum chanv_(?:answer|refused) \{(.*?)\};", text_of(HEADER))
+    enums = re.findall(r"(?s)enum chanv_(?:answer|refused|allowed) \{(.*?)\};", text_of(HEADER))
     header = dict(re.findall(r"(?m)^ +CHANV_([A-Z_]+) = (\d+)", "".join(enums)))
     source = text_of(ROOT / "crates/chanv_c/src/codes.rt")
     library = dict(re.findall(r"const ([A-Z_]+): u32 = (\d+);", source))
-    checks.expect("how many enums have these numbers", 2, len(enums))
+    checks.expect("how many enums have these numbers", 3, len(enums))
+    limits = re.search(r"CHANV_USUAL_LIMIT = (\d+)", text_of(HEADER))
+    checks.expect("the usual limit", limits[1], library.pop("USUAL_LIMIT"))
+    checks.expect("what allows nothing", "0", header.pop("ALLOW_NOTHING"))
     checks.expect("the numbers of the library", header, library)
     ccws = text_of(ROOT / "crates/ccw_core/src/ccw.rt")
     limit = re.search(r"STORAGE_LIMIT: u32 = ([\d_]+);", ccws)
@@ -240,7 +244,7 @@ def check_machine_stores(checks):
 def check_walks(checks):
     """Each page that says how often `chanv_take_in` walks says what the code does."""
     source = text_of(ROOT / "crates/chanv_c/src/take_in.rt")
-    walks = len(re.findall(r"\bmatch needs_of\(", source))
+    walks = len(re.findall(r"\bmatch (?:kept|needs)_of\(", source))
     pages = [ROOT / "CHANGELOG.md", ROOT / "bench/README.md", *sorted(DOCS.glob("*.md"))]
     how = r"chanv_take_in (?:judges|walks|surveys)[^.]*?\b(once|twice)\b"
     said = [word for page in pages for word in re.findall(how, plain(text_of(page)))]

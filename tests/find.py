@@ -146,12 +146,15 @@ def lines_of(image, device):
     """What the page says of an image: a line for each program, with the verdict on it."""
     job = job_over(image, device)
     starts = [*programs_of(job)]
-    is_past_limit = False
+    is_past_limit = is_past_storage = False
     for start in starts:
         answer = Answer(job._replace(start=start))
         told = "too many places" if answer.is_too_large else f"{answer.verdict} {shape_of(answer)}"
         yield f"{start:06X} {told}"
         is_past_limit |= answer.is_too_large
+        is_past_storage |= " data-outside " in told
+    if is_past_storage:
+        yield STORAGE_NOTE.format(len(job.storage))
     if is_past_limit:
         yield limit_line(LIMIT)
     if not starts:
@@ -232,7 +235,7 @@ def check_large(checks, program):
     words = LARGEST // 8
     chained = Ran(0, "000000 too many places\n", f"{limit_line(4096)}\n")
     for name, image, wanted in [
-        ("no byte", b"", Ran(0, "", NONE_FOUND)),
+        ("no byte", b"", Ran(0, "", "note: the image is empty\n" + NONE_FOUND)),
         ("zeros", bytes(LARGEST), Ran(0, "", NONE_FOUND)),
         ("one chain", operation * (words - 1) + last, chained),
         ("transfers", transfer * words, Ran(0, "", NONE_FOUND)),
@@ -253,8 +256,12 @@ def check_large(checks, program):
 
 
 # what `beginnings` tries
-FITTING = re.compile(r"note: \d+(?: other)? search loops? fits? if .+")
+FITTING = re.compile(r"note: (?:\d+(?: other)? search loops? fits? if .+|the image is empty)")
 NONE = "note: no program found"
+STORAGE_NOTE = (
+    "note: storage has {:07X} bytes; give --storage if it has more, and --at if the image begins "
+    "elsewhere"
+)
 ELSEWHERE = "if the image begins at another address than 0"
 NONE_FOUND = (
     "note: no program found; if the image is a part of storage, give --at and --storage\n"

@@ -40,11 +40,12 @@ CARELESS = [
     ("the comparison", "code <= CHANV_REFUSED_CHANGED", "code < CHANV_REFUSED_CHANGED"),
     ("the keys", "(has & STORKEY_KEY) == key", "has < 255"),
     ("fetch protection", "(fetching && !(has & STORKEY_FETCH))", "fetching"),
-    ("the arguments", "chanvask_bring(job, data) | chanvask_bring(job, data + 5)", "0"),
-    ("scattered programs", "if (more)\n", "if (0)\n"),
-    ("data chains", " && !(ccw[4] & 0x80)", ""),
-    ("what goes on where chanv stops", "CHANV_OK && !needed.ends_chaining", "CHANV_OK"),
-    ("the table", "flight.programs, flight.rows, program", "NULL, 0, program"),
+    (
+        "what goes on where chanv stops",
+        "CHANV_ALLOW_HANGING | CHANV_ALLOW_INTERRUPTING",
+        "CHANV_ALLOW_HANGING | CHANV_ALLOW_INTERRUPTING | CHANV_ALLOW_ENDING_CHAINS",
+    ),
+    ("the table", "flight.table, flight.rows, program", "NULL, 0, program"),
 ]
 
 # the CCWs of demo.s by their addresses: a seek, a search for the home address, and a read of record
@@ -243,7 +244,7 @@ CASES = [
     ),
     # the sizes are those of what chanv_take_in asks for, and of a disk of the module
     Case(
-        "no memory for an answer", "demo", (ASKS,), refused="4300000 4500000",
+        "no memory for an answer", "demo", (ASKS,), refused="4206000 4207000",
         lines="".join(
             f"HHCCV004E 0190: chanv has no answer, out-of-memory, start 0008{at}0, not started\n"
             for at in "048"
@@ -266,7 +267,7 @@ CASES = [
 
 # What is left out of chanv.c, the text for it, the text instead, and the case that fails.
 FORGETFUL = [
-    ("the table", "flight.programs[ask->row] = *program;", ";", "a conflict"),
+    ("the table", "flight.table[ask->row].program = *program;", ";", "a conflict"),
     ("the end", "    memset(program, 0, sizeof *program);\n", "", "the end after a search"),
     ("two at once", "ARCH_370 && ask->running == 0)", "ARCH_370)", "system reset in flight"),
     ("others", "(other = unjudged()) != NULL", "0", "a disk that doesn't ask"),
@@ -274,7 +275,7 @@ FORGETFUL = [
     ("Start I/O", "    begin_unjudged(dev);\n    pthread", "    ;\n    pthread", "a printer"),
     ("the kept bytes", "chanvask_has_changed(program,", "0 && chanvask_has_changed(program,",
      "a kept byte"),
-    ("low storage", "chanv_row_storing(", "(void)(", "low storage"),
+    ("low storage", "flight.table[i].stores = ", "(void)", "low storage"),
     ("the refusal", "ask->refuse && !loads", "0", "good, outside and past"),
     ("the Read IPL", "look_at_processors() && start == 0", "look_at_processors() && 0", "Read IPL"),
     ("the hold", "disk->ask.running > 0 || disk->ask.dev->hnd == &disk->ours", "0",

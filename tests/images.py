@@ -29,6 +29,7 @@ USUAL_DEVICE = "note: no --device, so 2314\n"
 HEAD = "chanv deck 1\ndevice 2314\nmask 00\nstart {}\nextent {}\n"
 OUTSIDE = "note: {} lies outside the image, so it is zero here\n"
 HELP = r"(?:help: .*\n)+"
+EMPTY = "note: the image is empty\n"
 IS_DECK = "note: this is a deck; chanv verify judges it\n"
 PAST = "chanv: image past storage\n"
 
@@ -50,7 +51,11 @@ def only_note(note, word, behind=""):
 
 
 def deck(words, expected, given=b"", about=""):
-    """A row for `deck`: a note names the usual device if right words don't name one."""
+    """A row for `deck`: a note names the usual device if right words don't name one, and another
+    an empty image."""
+    if not given and expected.status == 0 and "chanv deck 1\n" in str(expected.output):
+        is_read = any(Path(word).is_file() for word in words)
+        expected = expected._replace(error=("" if is_read else EMPTY) + expected.error)
     is_usual = not any(str(word).startswith("--device") for word in words)
     if is_usual and isinstance(expected.error, str) and not expected.error.startswith("error: "):
         expected = expected._replace(error=USUAL_DEVICE + expected.error)
@@ -105,13 +110,13 @@ def rows_of_images():
     yield deck(JOB, Ran(0, LOOP), LOOP_STORAGE[:-7], "an odd end")
     yield deck([*JOB, "--at", "7FD"], Ran(0, LOOP), LOOP_STORAGE[0x7FD:0xFFB])
     yield deck(SMALL_JOB, TOO_LONG_SAID, TOO_LONG, "a byte too much")
-    yield deck([*SMALL_JOB, "--at", "FFFFFF"], TOO_LONG_SAID, b"ab")
+    yield deck([*SMALL_JOB, "--at", "FFFFFF"], TOO_LONG_SAID, b"a\0")
     endless = deck(["--device=2314", *JOB], TOO_LONG_SAID)
     yield endless._replace(script="yes '' | \"$@\"")
-    # a deck is named as one, whatever comes of it
+    # a deck that is taken as an image is named as one, whatever comes of it
     made = re.compile("chanv deck 1\n(.+\n)+end\n")
     for word, status in [("--extent=0-9", 0), ("--open", 0), ("--least", 1)]:
-        words, output = ["--device=2314", "--start=800", word], "" if status else made
+        words, output = ["--device=2314", "--start=800", "--raw", word], "" if status else made
         noted, unnoted = (only_note(note, IS_DECK[:-1]) for note in (IS_DECK, ""))
         yield deck([*words, SEARCH_LOOP], Ran(status, output, noted))
         yield deck(words, Ran(status, output, unnoted), b"chanv  deck 1\n")

@@ -19,7 +19,8 @@ import sys
 import tempfile
 from pathlib import Path
 
-from building import FLAGS, ROOT, compile_c, is_proved, said_version, version, version_of
+from building import FLAGS, ROOT, compile_c, is_proved, most_bytes, said_version, version
+from building import version_of
 from examples import EXAMPLES
 from links_and_sizes import NAMED, broken_links
 from pages import EMBEDDING, check_page, shown_by
@@ -59,7 +60,7 @@ LDCONFIG = "make install: run ldconfig as root, so that programs find the librar
 STAGED_LIBRARIES = {
     "libchanv.a": READ,
     f"libchanv.so.{version()}": READ,
-    f"libchanv.so.{version().rpartition('.')[0]}": LINK,
+    f"libchanv.so.{version().split('.')[0]}": LINK,
     "libchanv.so": LINK,
     "pkgconfig/chanv.pc": READ,
 }
@@ -262,6 +263,8 @@ def check(checks, built):
         folder = Path(room)
         to = folder / "opt"
         checks.expect("make install", 0, make(checks, "install", to).status)
+        size = sum(it.lstat().st_size for it in to.rglob("*") if not it.is_dir())
+        checks.expect_that("the size of all that is installed", size <= most_bytes("lib"), size)
         check_versions(checks, to, program, library)
         _, told = pkg_config(to, "--modversion") if shutil.which("pkg-config") else (0, None)
         if told is None:

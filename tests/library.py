@@ -26,9 +26,8 @@ TESTS = ("one_call", "bytes", *LINED)
 SOURCES = [EXAMPLES / "c/ask.c", *[HERE / f"c/{name}.c" for name in TESTS]]
 MAY_ASK_FOR = {"memcpy", "memmove", "memset", "malloc", "realloc", "free"}
 OF_THE_RUNTIME = {"rattle_alloc", "rattle_realloc", "rattle_dealloc"}
-NAMES = "verify list why text take_in check_start check_write check_kept find version".split()
-NAMES += "row_storing row_keeping".split()
-NAMES += "make_prefix is_fault reason_word answer_word refusal_word entered_word".split()
+NAMES = "verify list why text take_in check_start check_write find version".split()
+NAMES += "make_prefix reason_word answer_word refusal_word entered_word".split()
 CALLS = {f"chanv_{name}" for name in NAMES}
 LAYOUT = ROOT / "crates/chanv_c/include/layout.txt"
 # warnings that a program's own build may ask for
@@ -160,10 +159,9 @@ RIGHT = [
     "chanv_list(&job, NULL, 0, &len, &len)",
     "chanv_why(&job, NULL, 0, NULL, 0, &why)",
     "chanv_text(&job, NULL, 0, &len)",
-    "chanv_take_in(&job, NULL, 0, NULL, &it, NULL)",
+    "chanv_take_in(&source, &own, 0, NULL, 0, NULL, &it, NULL)",
     "chanv_check_start(&job, NULL, 0, &it, &no)",
     "chanv_check_write(NULL, 0, &area, &no)",
-    "chanv_check_kept(&it, NULL, 0, &no)",
     "chanv_make_prefix(&job, 0, NULL, 0, &len)",
     "chanv_find(&job.storage, 2314, NULL, 0, &len)",
 ]
@@ -172,10 +170,13 @@ int ask(struct chanv_job job, struct chanv_area area, struct chanv_program it);
 int ask(struct chanv_job job, struct chanv_area area, struct chanv_program it)
 {{
     struct chanv_verdict verdict = {{0, 0, 0}};
+    struct chanv_source source = {{job.storage, 0, 1, 2314}};
+    struct chanv_areas own = {{NULL, 0}};
     struct chanv_refusal no;
     struct chanv_explanation why;
     size_t len = 0;
     (void)job, (void)area, (void)it, (void)no, (void)why, (void)len, (void)verdict;
+    (void)source, (void)own;
     return {};
 }}
 """
@@ -189,9 +190,15 @@ TELLS_APART = "enum one { A }; enum other { B }; enum one f(void); int g(void) {
 DOUBTS_PRODUCTS = "int f(void); int g(void) { return 2 * f() ? 3 : 4; }"
 
 
+# whether a compiler counts the items at a pointer: GCC does from version 11 on
+COUNTS_ITEMS = """__attribute__((access(read_only, 1, 2))) int f(int *items, long count);
+int g(void) { return f((void *)0, 9); }"""
+
+
 def mistakes_of(call):
-    """The call whose answer is ignored, taken for a truth, or compared with what isn't an answer,
-    and with NULL where it mustn't be, each with the warning that finds it."""
+    """The call whose answer is ignored, taken for a truth, or compared with what isn't an answer;
+    with NULL where it mustn't be; and with a count of what isn't there. Each with the warning that
+    finds it."""
     yield f"({call}, 0)", "unused-result"
     yield f"{call} ? 1 : 2", "int-in-bool-context"
     yield f"!{call}", "int-in-bool-context"
@@ -201,20 +208,20 @@ def mistakes_of(call):
     for pointer in dict.fromkeys(re.findall(r"&[\w.]+", call)):
         for at in (it.start() for it in re.finditer(rf"{re.escape(pointer)}\b(?!\.)", call)):
             yield f"{call[:at]}NULL{call[at + len(pointer) :]} == CHANV_YES", "nonnull"
+    for none in re.finditer("NULL, 0", call):
+        yield f"{call[: none.start()]}NULL, 9{call[none.end() :]} == CHANV_YES", "items"
 
 
-def null_rows():
-    """The calls that make rows of a table, with NULL for each of their pointers in turn."""
-    for call in ("chanv_row_storing", "chanv_row_keeping"):
-        yield f"({call}(NULL, &it), 0)"
-        yield f"({call}(&area, NULL), 0)"
+# the warning about a mistake, where it hasn't the mistake's name
+WARNING_OF = {"items": "nonnull"}
 
 
 def check_mistakes(checks, library, folder):
     """A compiler finds an answer that is ignored or compared with something else, and NULL where it
-    mustn't be; and it finds no fault with NULL where it may be."""
+    mustn't be, also if the header is the system's; and it finds no fault with NULL where it may be."""
     source, made = folder / "mistake.c", folder / "mistake.o"
-    look = [*c_compiler(), "-c", "-o", made, f"-I{library}", "-std=c11", "-Wall", "-Wextra"]
+    strict = ["-std=c11", "-Wall", "-Wextra", "-pedantic"]
+    look = [*c_compiler(), "-c", "-o", made, *strict, f"-I{library}"]
     source.write_text(TELLS_APART)
     tells_apart = "[-Wenum-compare]" in run(*look, source).error
     if not tells_apart:
@@ -223,11 +230,15 @@ def check_mistakes(checks, library, folder):
     doubts_products = "[-Wint-in-bool-context]" in run(*look, source).error
     if not doubts_products:
         checks.skip("answers taken for truths", "the compiler doesn't warn about products")
-    known = {"enum-compare": tells_apart, "int-in-bool-context": doubts_products}
-    for mistake in null_rows():
-        source.write_text(ASKING.format(mistake))
-        ran = run(*look, source)
-        checks.expect_that(f"{mistake} is found", "[-Wnonnull]" in ran.error, ran)
+    source.write_text(COUNTS_ITEMS)
+    counts_items = "[-Wnonnull]" in run(*look, source).error
+    if not counts_items:
+        checks.skip("counts of items", "the compiler doesn't count what is at a pointer")
+    known = {
+        "enum-compare": tells_apart,
+        "int-in-bool-context": doubts_products,
+        "items": counts_items,
+    }
     for call in RIGHT:
         source.write_text(ASKING.format(f"{call} == CHANV_NO"))
         checks.expect(f"no fault with {call}", Ran(0), run(*look, source))
@@ -235,8 +246,24 @@ def check_mistakes(checks, library, folder):
             if not known.get(option, True):
                 continue
             source.write_text(ASKING.format(mistake))
-            ran = run(*look, source)
-            checks.expect_that(f"{mistake} is found", f"[-W{option}]" in ran.error, ran)
+            # as a header of the user's, and as one of the system's, whose macros GCC doesn't warn of
+            for name in ("-I", "-isystem"):
+                ran = run(*look[:-1], name, library, source)
+                found = f"[-W{WARNING_OF.get(option, option)}]" in ran.error
+                checks.expect_that(f"{mistake} is found by {name}", found, ran)
+
+
+def check_marker(checks, library):
+    """The line marker of the header gives the line behind it its own number."""
+    lines = (library / "chanv.h").read_text().splitlines()
+    marked = [
+        (int(marker[1]), number)
+        for number, line in enumerate(lines, start=2)
+        if (marker := re.fullmatch(r'# (\d+) "chanv\.h"', line))
+    ]
+    checks.expect("line markers", 1, len(marked))
+    for said, number in marked:
+        checks.expect("the number of the line behind a marker", number, said)
 
 
 def check_archive(checks, library):
@@ -267,7 +294,7 @@ def check_hardening(checks, library):
 def refuse_growths(checks, folder):
     growths, program = Growths(folder), folder / "one_call"
     answers = {"verify": "yes", "list": "3", "why": "2 3", "take_in": "yes"}
-    answers |= {"check_start": "yes", "check_kept": "yes", "find": "1", "text": "no", "make_prefix": "yes"}
+    answers |= {"check_start": "yes", "find": "1", "text": "no", "make_prefix": "yes"}
     setup = [program, "setup"]
     for call, answer in answers.items():
         case = Case(f"chanv_{call}", [program, call], Ran(0, f"{answer}\n"), before=setup)
@@ -294,6 +321,7 @@ def check(checks, built):
         check_layout(checks, library, folder, is_proved(library))
         check_warnings(checks, library)
         check_mistakes(checks, library, folder)
+        check_marker(checks, library)
         check_archive(checks, library)
         check_hardening(checks, library)
         refuse_growths(checks, folder)

@@ -23,9 +23,15 @@ TOOLS = ["ld", "objcopy", "ar"]
 # runs a tool of this machine, and leaves its name
 STANDS_FOR = '#!/bin/sh\necho {tool} >> "$SEEN"\nexec {tool} "$@"\n'
 # each row of readelf that the shared library has to have
-DYNAMIC = [rf"SONAME.*\[libchanv\.so\.{re.escape(version().rpartition('.')[0])}\]", "BIND_NOW"]
+DYNAMIC = [rf"SONAME.*\[libchanv\.so\.{re.escape(version().split('.')[0])}\]", "BIND_NOW"]
 HEADERS = ["GNU_RELRO", "GNU_STACK .* RW "]
-MACHINES = ["s390x", "aarch64", "i686"]
+# other machines as rustc names them, and what the names of their tools begin with
+MACHINES = {
+    "s390x-unknown-linux-gnu": "s390x-linux-gnu",
+    "aarch64-unknown-linux-gnu": "aarch64-linux-gnu",
+    "armv7-unknown-linux-gnueabihf": "arm-linux-gnueabihf",
+    "i686-unknown-linux-gnu": "i686-linux-gnu",
+}
 
 
 def stubs(room):
@@ -66,10 +72,10 @@ def check_tools(checks, room):
     checks.expect_that("make link for another machine", ran.status == 0, ran)
     seen = {Path(line).name for line in text_of(room / "seen").split()}
     checks.expect("the tools for another machine", {*TOOLS}, seen)
-    for machine in MACHINES:
-        shows = ["--eval=show: ; @env", "show", f"TARGET={machine}-unknown-linux-gnu"]
+    for machine, of_tools in MACHINES.items():
+        shows = ["--eval=show: ; @env", "show", f"TARGET={machine}"]
         ran = run("make", "-s", "-C", ROOT, *shows)
-        linker = f"CARGO_TARGET_{machine.upper()}_UNKNOWN_LINUX_GNU_LINKER={machine}-linux-gnu-gcc"
+        linker = f"CARGO_TARGET_{machine.upper().replace('-', '_')}_LINKER={of_tools}-gcc"
         checks.expect_that(f"cargo's linker for {machine}", linker in ran.output.split("\n"), ran)
 
 

@@ -23,6 +23,7 @@ from words import WORDS
 OUTSIDE = set(
     """
     clippy no-deps allow-holes tidy plant proves lto savecore setuptools
+    pmemsave c1-24 x/32xb x/16xw x00000800 x07000900
     dlopen ldconfig mprotect MAP_FIXED ls
     find_package pkg_check_modules PkgConfig IMPORTED_TARGET dependency
     rustup s390x-unknown-linux-gnu s390x-linux-gnu-gcc

@@ -24,7 +24,7 @@ CALLS = [
     ("list", OF_JOB, "0 7 0 0 7"),
     ("why", OF_JOB, "1 7 1 1 7"),
     ("text", OF_JOB, "1 7 1 1 7"),
-    ("take_in", OF_JOB, "1 7 0 0 7"),
+    ("take_in", ["storage", "own"], "1 1 1"),
     ("take_in_untold", ["len", "out"], "0 0 0"),
     ("start", OF_JOB, "1 7 1 1 7"),
     ("list_into", ["rows"], "11 11"),
@@ -37,8 +37,6 @@ CALLS = [
     ("start_alike", OF_ROWS, "1 1 0 0 1 0"),
     ("write_over", OF_ROWS, "1 1 1 0 1 0"),
     ("write_with_none", ["in flight"], "0 0"),
-    ("kept_elsewhere", OF_ROWS, "1 1 1 0 1 0"),
-    ("kept_nowhere", ["areas"], "1 1"),
     ("find", ["storage", "starts"], "0 11 0"),
     ("prefix", OF_JOB, "1 7 0 0 7"),
     ("prefix_into", ["bytes"], "11 11"),
@@ -143,17 +141,22 @@ class Asking:
     def text_of(self, call, job, number):
         return self.counted(call, job, *self.rows(number, c_char, 1024))
 
+    def source(self, first):
+        """The search loop, what its user owns, and that it may do nothing."""
+        source = self.c.Source(self.bytes_at(first), START, 4096, 2314)
+        return source, self.areas(first + 1, ALL), c_uint32(0)
+
     def take_in(self):
-        return self.take_in_of(self.job(), 100)
+        return self.take_in_of(self.source(0), 100)
 
     def take_in_into(self):
-        return self.take_in_of(self.full(), 0)
+        return self.take_in_of(self.source(100), 0)
 
-    def take_in_of(self, job, first):
+    def take_in_of(self, asked, first):
         """The program's addresses are others each time, and its lists are in the memory."""
         memory, program = self.rows(first, c_char, 1024), self.c.Program()
-        count, out = c_size_t(77), self.c.Needed()
-        given = job, *memory, byref(count), byref(program), byref(out)
+        count, out = c_size_t(77), self.c.Intake()
+        given = *asked, *memory, byref(count), byref(program), byref(out)
         code, seen = self.written(self.library.chanv_take_in, *given)
         return code, [*seen, count.value, value_of(out), program.rows.keep.len]
 
@@ -161,10 +164,10 @@ class Asking:
         """Without the length, without what it says of the program, or without both."""
         length, out = (
             None if at in self.empty and self.by_null else byref(kind())
-            for at, kind in enumerate((c_size_t, self.c.Needed))
+            for at, kind in enumerate((c_size_t, self.c.Intake))
         )
         memory, program = self.rows(100, c_char, 1024), self.c.Program()
-        asked = self.full(), *memory, length, byref(program), out
+        asked = *self.source(100), *memory, length, byref(program), out
         code, seen = self.written(self.library.chanv_take_in, *asked)
         return code, [*seen, program.start, program.rows.keep.len, program.kept.len]
 
@@ -177,7 +180,7 @@ class Asking:
         return self.start_of(job, self.c.Program(rows, kept, START, 2314))
 
     def start_of(self, job, program, *in_flight):
-        flying = (self.c.Program * len(in_flight))(*in_flight)
+        flying = (self.c.Row * len(in_flight))(*(self.c.Row(it) for it in in_flight))
         given = job, flying, c_size_t(len(in_flight)), program, self.c.Refusal
         return self.written(self.library.chanv_check_start, *given)
 
@@ -205,22 +208,12 @@ class Asking:
         return self.written(self.library.chanv_check_write, *given)
 
     def write_over(self):
-        return self.write_of(byref(self.program()), 1)
+        return self.write_of(byref(self.c.Row(self.program())), 1)
 
     def write_with_none(self):
-        given = self.list_at(0, (self.c.Program * 1)(self.program(100)))
+        given = self.list_at(0, (self.c.Row * 1)(self.c.Row(self.program(100))))
         self.held.pop()  # its addresses are others each time
         return self.write_of(*given)
-
-    def kept_elsewhere(self):
-        return self.kept_of(self.program(), (self.c.Area * 1)((0, START)), 1)
-
-    def kept_nowhere(self):
-        return self.kept_of(self.program(100), *self.list_at(0, (self.c.Area * 1)(*ALL)))
-
-    def kept_of(self, program, areas, count):
-        given = program, areas, c_size_t(count), self.c.Refusal
-        return self.written(self.library.chanv_check_kept, *given)
 
     def prefix(self):
         return self.prefix_of(self.job(), 100)

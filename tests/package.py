@@ -26,3 +26,9 @@ def package(built, name="chanv"):
         if str(FOLDER) not in sys.path:
             sys.path.insert(0, str(FOLDER))
         return importlib.import_module(name)
+
+
+def taken_in(chanv, job):
+    """The program of a job, for a user who owns all storage and may do everything."""
+    everything = {"hanging": True, "interrupting": True, "ending_chains": True}
+    return chanv.take_in(job, own=[(0, 1 << 24)], **everything)

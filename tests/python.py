@@ -22,7 +22,7 @@ from pathlib import Path
 
 from building import HERE, ROOT, compile_c, short, version
 from examples import EXAMPLES, FOLDERS, SEARCH_LOOP, TEXTS, decks_of, listed_with, verdicts_of
-from package import FOLDER, package, shared_library
+from package import FOLDER, package, shared_library, taken_in
 from refused_decks import DECKS, replaced
 from running import Ran, run, text_of
 
@@ -229,7 +229,7 @@ def check_needs(checks, chanv, deck, job, verdict):
     """The needs are those of the file, and the program may start exactly if its verdict is yes."""
     wanted = text_of(deck.with_suffix(".needs")) if "needs" in listed_with(deck) else None
     try:
-        program = chanv.needs(job)
+        program = taken_in(chanv, job)
     except chanv.NoJob as refused:
         checks.expect(f"no start of {deck.name}", False, bool(verdict))
         if wanted is not None:
@@ -291,14 +291,14 @@ def check_storage(checks, chanv, judging):
                     name = f"{type(storage).__name__}, copy={copy}"
                     checks.expect(name, "yes", str(chanv.verify(asked)))
                     checks.expect(f"find in {name}", [0x800], chanv.find(storage, copy=copy))
-    program = chanv.needs(job)
+    program = taken_in(chanv, job)
     apart = memoryview(bytearray(2 * len(held)))[::2]
     for name, storage in (("a number", 8), ("every other byte", apart)):
         for copy in (True, False):
             asked = dataclasses.replace(job, storage=storage, copy=copy)
             for ask in (
                 lambda: chanv.verify(asked),
-                lambda: chanv.needs(asked),
+                lambda: taken_in(chanv, asked),
                 lambda: chanv.may_start(asked, program, []),
                 lambda: chanv.find(storage, copy=copy),
             ):
@@ -317,7 +317,7 @@ def error_of(ask):
 
 def check_values(checks, chanv, judging):
     """What can't change, what can be pickled, and how permissions print."""
-    program = chanv.needs(judging.read_deck(text_of(SEARCH_LOOP)))
+    program = taken_in(chanv, judging.read_deck(text_of(SEARCH_LOOP)))
     rows = program.extents, program.fetch, program.store, program.keep
     checks.expect_that("rows are tuples", all(type(it) is tuple for it in rows), rows)
     checks.expect("a program, pickled", program, pickle.loads(pickle.dumps(program)))
@@ -331,7 +331,7 @@ def check_values(checks, chanv, judging):
         (chanv.Permission(), "yes"),
         (chanv.Permission("no-cylinder", 17), "no: no-cylinder 017"),
         (chanv.Permission("not-storable", 0), "no: not-storable 000000"),
-        (chanv.Permission("writes-over-kept", 0, 0), "no: writes-over-kept 000000 by program 0"),
+        (chanv.Permission("writes-over-kept", 0, 0), "no: writes-over-kept 000000 by row 0"),
         (chanv.Permission("mask"), "no: mask"),
     ]:
         checks.expect(f"{text} as text", text, str(permission))
@@ -377,7 +377,7 @@ def check_library(checks, library, room):
     code = text_of(FOLDER / "chanv/_c.py")
     script = f"at = {at!r}; exec(compile({code!r}, '_c.py', 'exec'), at)\n"
     script += "print(at['__getattr__']('library').chanv_version() >> 16 & 255)"
-    checks.expect("right under the root", Ran(0, "0\n"), python(library, script))
+    checks.expect("right under the root", Ran(0, "1\n"), python(library, script))
 
 
 def soname():
@@ -396,19 +396,20 @@ def ask_from(package, library, at):
 
 
 def check_places(checks, library, room):
-    """Where the package looks: in `lib` of its own prefix, or in `out` of its checkout."""
+    """Where the package looks: in itself, in `lib` of its own prefix, or in `out` of its checkout."""
     name = soname()
     for about, package, at in [
         ("make install", "a/share/chanv/python", f"a/lib/{name}"),
         ("pip", "b/lib/python3.11/site-packages", f"b/lib/{name}"),
         ("Debian's pip", "c/lib/python3/dist-packages", f"c/lib/{name}"),
+        ("a wheel with a library", "k/site", f"k/site/chanv/{name}"),
     ]:
         ran = ask_from(room / package, library, room / at)
         checks.expect(f"as {about} leaves it", ASKED, ran)
     checkout = room / "d/python"
     checkout.mkdir(parents=True)
     shutil.copy(FOLDER / "pyproject.toml", checkout)
-    checks.expect("in a checkout", ASKED, ask_from(checkout, library, room / f"d/out/{name}.0"))
+    checks.expect("in a checkout", ASKED, ask_from(checkout, library, room / f"d/out/libchanv.so.{version()}"))
     # what isn't a library is named where the package looks, whatever library the system has
     text = room / "text"
     text.write_text("no library\n")
@@ -416,7 +417,7 @@ def check_places(checks, library, room):
         ("lib of its prefix", "j/share/chanv/python", f"j/lib/{name}", True),
         ("the folder above", "e/deep", f"e/lib/{name}", False),
         ("a folder far above", "f/deep/er/still", f"f/lib/{name}", False),
-        ("the package itself", "g", f"g/chanv/{name}", False),
+        ("the package itself", "g", f"g/chanv/{name}", True),
         ("the out of what isn't a checkout", "h/python", f"h/out/{name}", False),
         ("the lib of a target folder", "i/lib/here", f"i/lib/{name}", False),
     ]:

@@ -19,14 +19,14 @@ from pathlib import Path
 
 import python_edges
 from library import LAYOUT
-from package import FOLDER, package, shared_library
+from package import FOLDER, package, shared_library, taken_in
 from python import soname
 from python_edges import EACH, EVERYWHERE, FIELDS, HEADER, LOOP, error_of, job_of, storage_of
 from running import Ran, run, text_of
 
 # the calls about a job that copy its storage; `find` is added where it is asked, and so are those
 # that never copy
-COPYING, AS_IT_IS = "verify places why text".split(), ["needs", "may_start"]
+COPYING, AS_IT_IS = "verify places why text".split(), ["take_in", "may_start"]
 
 # the code of a call that had no memory
 MEMORY = 3
@@ -100,8 +100,9 @@ def storages(held):
 def questions(chanv, storage, program, **copy):
     """Each call that reads storage, by its name."""
     job = chanv.Job(storage, 0x800, EACH, EVERYWHERE, EVERYWHERE, **copy)
-    for name in (*COPYING, "needs"):
+    for name in COPYING:
         yield name, lambda call=getattr(chanv, name): call(job)
+    yield "take_in", lambda: taken_in(chanv, job)
     yield "may_start", lambda: chanv.may_start(job, program, [])
     yield "find", lambda: chanv.find(storage, **copy)
 
@@ -110,7 +111,7 @@ def check_storage(checks, chanv, watcher):
     """Each call gets a copy of what can change, of its whole length, and with `copy=False` none;
     what is right whatever writes storage never gets one."""
     held, seen = bytes(storage_of(LOOP)), []
-    program = chanv.needs(job_of(chanv, LOOP, 0x800))
+    program = taken_in(chanv, job_of(chanv, LOOP, 0x800))
 
     def note(name, given):
         handed = given[0]._obj
@@ -134,7 +135,7 @@ def check_storage(checks, chanv, watcher):
 
 def check_release(checks, chanv, watcher):
     """After an error storage can grow again: no call holds it any more."""
-    program = chanv.needs(job_of(chanv, LOOP, 0x800))
+    program = taken_in(chanv, job_of(chanv, LOOP, 0x800))
 
     def fail(name, given):
         raise KeyError(name)
@@ -198,48 +199,59 @@ def check_rows(checks, chanv, watcher):
         chanv.may_write((0, 1), [None, *programs])
         flying, count, *_ = seen[-1]
         checks.expect("how many rows the table of a write has", len(programs) + 1, count.value)
-        found = handed_program(flying[number + 1])
+        found = handed_program(flying[number + 1].program)
         checks.expect(f"program {number} in flight, for a write", wanted, found)
         chanv.may_start(job_of(chanv, LOOP, 0x800), program, [None, *programs])
         _, flying, count, asked, _ = seen[-1]
         checks.expect("how many rows the table of a start has", len(programs) + 1, count.value)
-        found = handed_program(flying[number + 1])
+        found = handed_program(flying[number + 1].program)
         checks.expect(f"program {number} in flight, for a start", wanted, found)
         checks.expect(f"program {number} to start", wanted, handed_program(asked._obj))
         areas = wanted["fetch"]
-        chanv.keeps_only(program, iter(areas))
-        asked, at, count, _ = seen[-1]
-        checks.expect(f"program {number}, what it keeps", wanted, handed_program(asked._obj))
-        found = rows_of(chanv._c.Areas(at, count.value))
-        checks.expect(f"the areas that program {number} may keep", areas, found)
+        error_of(lambda: chanv.take_in(job_of(chanv, LOOP, 0x800), iter(areas)))
+        found = rows_of(seen[-1][1]._obj)
+        checks.expect(f"the areas that a user owns, with {number}", areas, found)
 
 
-def check_no_areas(checks, chanv, watcher):
-    """A program that may keep nothing is asked about with no area, whatever it needs."""
-    program = chanv.needs(job_of(chanv, LOOP, 0x800))
+def check_source(checks, chanv, watcher):
+    """The library gets the source, what the user owns and what is allowed, as they are; a user who
+    owns nothing has no area."""
+    seen = []
+    watcher.before = lambda name, given: name == "chanv_take_in" and seen.append(given)
+    for storage, *numbers in ((bytes(16), 0x808, 2311, 17), (bytes(8), 1, 2, 3)):
+        for own in ((), ((0x10, 5),), ((1, 2), (3, 4))):
+            for allowed in range(8):
+                names = "hanging interrupting ending_chains".split()
+                may = {name: bool(allowed >> bit & 1) for bit, name in enumerate(names)}
+                source = chanv.Source(storage, *numbers)
+                error_of(lambda: chanv.take_in(source, own, **may))
+                asked, owned, bits, *_ = seen[-1]
+                found = asked._obj
+                found = found.storage.len, found.start, found.device, found.limit
+                about = f"{own}, {may}"
+                checks.expect(f"the source, {about}", (len(storage), *numbers), found)
+                checks.expect(f"what is owned, {about}", own, rows_of(owned._obj))
+                checks.expect(f"what is allowed, {about}", allowed, bits.value)
+    job = chanv.Job(bytes(16), 0x808, EACH, device=2311, limit=17)
+    checks.expect("the source of a job", chanv.Source(bytes(16), 0x808, 2311, 17), job.source)
 
-    def see(name, given):
-        raise KeyError(given[2].value)
 
-    watcher.before = see
-    found = error_of(lambda: chanv.keeps_only(program, []))
-    checks.expect("the areas of a program that may keep nothing", "KeyError(0)", repr(found))
-
-
-def check_no_programs(checks, chanv, watcher):
-    """The rows of the table that are no program are those of the library."""
-    area = chanv._c.Area(0x900, 0x50)
-    for name in ("storing", "keeping"):
-        row = chanv._c.Program()
-        getattr(watcher.real, f"chanv_row_{name}")(byref(area), byref(row))
-        made = getattr(chanv, name)((0x900, 0x50))
-        checks.expect(f"a row {name}", handed_program(row), handed_program(made._made))
+def check_areas_of_rows(checks, chanv, watcher):
+    """A row of the table that is no program has its areas, and a program of zeros."""
+    seen, none = [], bytes(sizeof(chanv._c.Program))
+    watcher.before = lambda name, given: seen.append(given)
+    for stores, keeps in ((0x900, 0x50), (0, 0)), ((0, 0), (8, 9)), ((1, 2), (3, 4)):
+        chanv.may_write((0, 1), [None, chanv.Row(stores, keeps), chanv.Row(keeps=keeps)])
+        rows = seen[-1][0]
+        found = [[(it.start, it.len) for it in (row.stores, row.keeps)] for row in rows]
+        checks.expect("areas", [[(0, 0)] * 2, [stores, keeps], [(0, 0), keeps]], found)
+        checks.expect("programs", [none] * 3, [bytes(row.program) for row in rows])
 
 
 def check_laid_out(checks, chanv, watcher):
     """A job's lists are laid out once: two questions at once get the same."""
     job = job_of(chanv, LOOP, 0x800)
-    program, seen = chanv.needs(job), []
+    program, seen = taken_in(chanv, job), []
 
     def note(name, given):
         made = given[0]._obj
@@ -262,6 +274,8 @@ def numbers_of(struct):
     """The numbers of a job or a program, and of the pairs in its lists: the width of each."""
     lists = {"extents": widths_of("extent")["last"]}
     lists |= {name: widths_of("area")["len"] for name in ("fetch", "store")}
+    if struct == "source":
+        return widths_of("source"), {}
     if struct == "job":
         return widths_of("job"), lists
     return widths_of("rows") | widths_of("program"), {**lists, "keep": widths_of("area")["len"]}
@@ -279,15 +293,17 @@ def check_numbers(checks, chanv, watcher):
     of asking; the largest number of each field reaches the library."""
     seen = []
     watcher.before = lambda name, given: seen.append(given)
-    job = {"storage": bytes(8), "start": 0, "extents": ()}
+    source = {"storage": bytes(8), "start": 0}
+    job = {**source, "extents": ()}
     program = {name: FIELDS[name] for name in FIELDS}
     asked = {
+        "source": lambda **more: error_of(lambda: chanv.Source(**{**source, **more})),
         "job": lambda **more: error_of(lambda: chanv.Job(**{**job, **more})),
         "program": lambda **more: error_of(lambda: chanv.Program(**{**program, **more})),
     }
     for struct, ask in asked.items():
         numbers, lists = numbers_of(struct)
-        checks.expect(f"how many numbers of a {struct}", 4, len(numbers))
+        checks.expect(f"how many numbers of a {struct}", 3 + (struct != "source"), len(numbers))
         for name, bits in numbers.items():
             for number, error in wrong_numbers(bits):
                 checks.expect(f"{struct}, {name} {number!r}", error, type(ask(**{name: number})))
@@ -298,19 +314,21 @@ def check_numbers(checks, chanv, watcher):
                     checks.expect(f"{struct}, {name} {pair}", error, type(found))
         largest = {name: (1 << bits) - 1 for name, bits in numbers.items()}
         made = ask(**largest)
+        if struct == "source":
+            continue  # check_source sees what is handed in
         error_of(lambda: chanv.verify(made) if struct == "job" else chanv.may_write((0, 1), [made]))
-        handed = handed_job(seen[-1][0]._obj) if struct == "job" else handed_program(seen[-1][0][0])
+        handed = handed_job(seen[-1][0]._obj) if struct == "job" else handed_program(seen[-1][0][0].program)
         found = {name: handed[name] for name in largest}
         checks.expect(f"the largest numbers of a {struct}", largest, found)
     for number, error in wrong_numbers(widths_of("area")["len"]):
         for pair in ((number, 0), (0, number)):
             found = error_of(lambda: chanv.may_write(pair, []))
             checks.expect(f"a write to {pair}", error, type(found))
-            found = error_of(lambda: chanv.keeps_only(made, [(0, 0), pair]))
-            checks.expect(f"what lies in {pair}", error, type(found))
-            for row in (chanv.storing, chanv.keeping):
-                found = error_of(lambda: row((0, 0), pair))
-                checks.expect(f"a row for {pair}", error, type(found))
+            found = error_of(lambda: chanv.take_in(chanv.Source(bytes(8), 0), [(0, 0), pair]))
+            checks.expect(f"a user who owns {pair}", error, type(found))
+            for name in ("stores", "keeps"):
+                found = error_of(lambda: chanv.Row(**{name: pair}))
+                checks.expect(f"a row that {name} {pair}", error, type(found))
     for number, error in wrong_numbers(16):
         found = error_of(lambda: chanv.find(bytes(8), number))
         checks.expect(f"find on {number!r}", error, type(found))
@@ -348,7 +366,7 @@ def check_needs(checks, chanv, watcher):
     little room at first."""
     chanv._ROOM = 8
     storage = bytearray(storage_of(LONG))
-    long, quiet = bytes(storage[0x800:0x828]), chanv.needs(job_of(chanv, LONG, 0x800))
+    long, quiet = bytes(storage[0x800:0x828]), taken_in(chanv, job_of(chanv, LONG, 0x800))
     short = chanv.Program(0x800, 2314, 0x1000, 0x58, (), (), (), [(0x800, 8)], SHORT)
     held = [len(getattr(quiet, name)) for name in ("extents", "fetch", "store", "keep")]
     checks.expect("how many rows the long program has", [1, 2, 1, 2], held)
@@ -359,7 +377,7 @@ def check_needs(checks, chanv, watcher):
         ("grows and shrinks", [SHORT, long, SHORT], short),
     ]:
         watcher.before = changed(storage, "take_in", texts)
-        found = error_of(lambda: chanv.needs(job))
+        found = error_of(lambda: taken_in(chanv, job))
         checks.expect(f"needs of a program that {about}", wanted, found)
     watcher.before = changed(storage, "find", [long, bytes(len(long))])
     checks.expect("starts that went away", [], chanv.find(storage, copy=False))
@@ -371,14 +389,14 @@ def check_many(checks, chanv, watcher):
     ccws = [f"06{0x10000 + 32 * at:06X}60000010" for at in range(count - 1)] + ["0601000020000010"]
     job = chanv.Job(bytes.fromhex("".join(ccws)).ljust(0x40000, b"!"), 0, EACH)
     watcher.before = lambda name, given: calls.append(name)
-    program = chanv.needs(job)
+    program = taken_in(chanv, job)
     checks.expect("how often a long program is taken in", 2, len(calls))
     areas = tuple((0x10000 + 32 * at, 16) for at in range(count - 1))
     seen = program.store, program.keep, program.kept
     kept = job.storage[: 8 * count]
     checks.expect("the lists of a long program", (areas, ((0, 8 * count),), kept), seen)
     calls.clear()
-    chanv.needs(job_of(chanv, LOOP, 0x800))
+    taken_in(chanv, job_of(chanv, LOOP, 0x800))
     checks.expect("how often a short program is taken in", 1, len(calls))
 
 
@@ -394,7 +412,7 @@ def check_no_job(checks, chanv, watcher):
     ]:
         storage[0x800:0x808] = UNKNOWN
         watcher.after = changed(storage, call, [text])
-        found = error_of(lambda: chanv.needs(job))
+        found = error_of(lambda: taken_in(chanv, job))
         verdict, row = SAID[said]
         first, _, rest = found.explanation.partition("\n")
         checks.expect(f"a no that {about}", (verdict, verdict), (str(found.verdict), first))
@@ -402,7 +420,7 @@ def check_no_job(checks, chanv, watcher):
         checks.expect(f"storage after a no that {about}", None, error_of(lambda: grow(storage)))
     storage[0x800:0x808] = UNKNOWN
     watcher.after = changed(storage, "take_in", [SHORT])
-    found = error_of(lambda: chanv.needs(job))
+    found = error_of(lambda: taken_in(chanv, job))
     code = getattr(found, "code", found)
     checks.expect("a no that goes away", chanv.Answer.CHANGED_MEANWHILE, code)
 
@@ -420,9 +438,8 @@ class Without:
 def check_memory(checks, chanv, watcher):
     """Want of memory is neither a yes nor a no, whatever was asked."""
     job = job_of(chanv, LOOP, 0x800)
-    program = chanv.needs(job)
+    program = taken_in(chanv, job)
     asked = [*questions(chanv, job.storage, program)]
-    asked += [("keeps_only", lambda: chanv.keeps_only(program, EVERYWHERE))]
     asked += [("may_write", lambda: chanv.may_write((0, 1), [program]))]
     chanv._c.library = Without(watcher.real)
     for name, ask in asked:
@@ -452,8 +469,8 @@ def check(checks, built):
         check_storage,
         check_release,
         check_rows,
-        check_no_areas,
-        check_no_programs,
+        check_source,
+        check_areas_of_rows,
         check_laid_out,
         check_numbers,
         check_many,

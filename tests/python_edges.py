@@ -10,12 +10,13 @@ in which only a program counts.
 import collections
 import copy
 import dataclasses
+import functools
 import pickle
 import re
 from types import SimpleNamespace
 
 from building import ROOT
-from package import package
+from package import package, taken_in
 from running import text_of
 
 SIZE = 0x1000
@@ -87,14 +88,14 @@ def check_no_at_zero(checks, chanv):
         checks.expect(f"{name} at 0, the places", [(0, "fresh")], places)
         check_needs_at_zero(checks, chanv, name, job, "yes" if more else line)
     job = job_of(chanv, *AT_ZERO[3][1:3])
-    refused = [str(chanv.verify(job)), error_of(lambda: chanv.needs(job)).verdict.address]
+    refused = [str(chanv.verify(job)), error_of(lambda: taken_in(chanv, job)).verdict.address]
     checks.expect("a transfer that comes first", ["no 000008 transfer-not-allowed", 8], refused)
 
 
 def check_needs_at_zero(checks, chanv, name, job, line):
     told = chanv.text(job.opened())
     checks.expect(f"{name} at 0, the open text", line, told.partition("\n")[0])
-    needed = error_of(lambda: chanv.needs(job))
+    needed = error_of(lambda: taken_in(chanv, job))
     if line == "yes":
         checks.expect(f"{name} at 0, what it keeps", ((0, 8),), needed.keep)
         return
@@ -108,38 +109,40 @@ def check_refusals_at_zero(checks, chanv):
     """The refusals of a start and of a write that name the byte 000000, the cylinder 0, and the
     program 0."""
     read = {0: "0600010020000010"}
-    program = chanv.needs(job_of(chanv, read, 0))
+    program = taken_in(chanv, job_of(chanv, read, 0))
     fetching = {8: "3100000020000005"}
-    over = chanv.needs(job_of(chanv, {8: "0600000020000008"}, 8))
+    over = taken_in(chanv, job_of(chanv, {8: "0600000020000008"}, 8))
     seek = {0: "0700010020000006"}
     rows = [
         ("changed 000000", {**read, 0: "0700010020000010"}, program, {}, []),
         ("not-fetchable 000000", fetching, None, {"fetch": [(1, 9)]}, []),
         ("not-storable 000000", {8: "0600000020000008"}, over, {"store": [(1, 9)]}, []),
         ("no-cylinder 000", seek, None, {"extents": [(1, 202)]}, []),
-        ("stores-over-kept 000000 by program 0", {8: "0600000020000008"}, over, {}, [program]),
-        ("keeps-stored-over 000000 by program 0", read, program, {}, [over]),
+        ("stores-over-kept 000000 by row 0", {8: "0600000020000008"}, over, {}, [program]),
+        ("keeps-stored-over 000000 by row 0", read, program, {}, [over]),
     ]
     for line, words, asked, more, in_flight in rows:
         start = min(words)
-        asked = asked or chanv.needs(job_of(chanv, words, start))
+        asked = asked or taken_in(chanv, job_of(chanv, words, start))
         found = chanv.may_start(job_of(chanv, words, start, **more), asked, in_flight)
         checks.expect(f"a start: {line}", (f"no: {line}", False), (str(found), bool(found)))
     found = chanv.may_write((0, 1), [program])
-    line = "no: writes-over-kept 000000 by program 0"
+    line = "no: writes-over-kept 000000 by row 0"
     checks.expect("a write over 0", (line, False), (str(found), bool(found)))
     found = chanv.may_write((8, 8), [None, program])
     checks.expect("a write beside it", ("yes", True), (str(found), bool(found)))
     for areas, line in [
-        ([(0, 8)], "yes"),
-        ([(4, 4), (0, 4)], "yes"),
-        (iter([(0, 4), (4, 4)]), "yes"),
+        ([(0, 8)], None),
+        ([(4, 4), (0, 4)], None),
+        (iter([(0, 4), (4, 4)]), None),
         ([(1, 7)], "no: keeps-outside 000000"),
         ([(0, 7)], "no: keeps-outside 000007"),
         ([], "no: keeps-outside 000000"),
     ]:
-        found = chanv.keeps_only(program, areas)
-        checks.expect(f"kept in {areas}", (line, line == "yes"), (str(found), bool(found)))
+        found = error_of(lambda: chanv.take_in(job_of(chanv, read, 0), areas))
+        wanted = line if line else str(program)
+        checks.expect(f"owned {areas}", wanted, str(found))
+        checks.expect(f"owned {areas}, refused", line is not None, type(found) is chanv.Refused)
 
 
 def check_notes_at_zero(checks, chanv):
@@ -151,7 +154,7 @@ def check_notes_at_zero(checks, chanv):
         ("0600010080000008", None, None),  # a read with chain data
     ]
     for word, interrupts, ends in rows:
-        program = chanv.needs(job_of(chanv, {0: word, 8: "0300010020000001"}, 0))
+        program = taken_in(chanv, job_of(chanv, {0: word, 8: "0300010020000001"}, 0))
         for name, made in [("itself", program), *copies_of(program)]:
             seen = made.interrupts_at, made.ends_chaining_at
             checks.expect(f"notes on {word}, {name}", (interrupts, ends), seen)
@@ -159,15 +162,15 @@ def check_notes_at_zero(checks, chanv):
 
 def check_hang_at_zero(checks, chanv):
     loop = {0: "0600010040000010", 8: "0800000000000000"}
-    program = chanv.needs(job_of(chanv, loop, 0))
+    program = taken_in(chanv, job_of(chanv, loop, 0))
     checks.expect("a hang at 0", (0, "fresh"), (program.hangs_at, program.hangs_entered))
     for name, made in copies_of(program):
         checks.expect(f"a hang at 0, {name}", (0, "fresh"), (made.hangs_at, made.hangs_entered))
     for code, entered in (("06", "in"), ("05", "out"), ("31", "search")):
-        program = chanv.needs(job_of(chanv, {**TWO_WAYS, 0x810: f"{code}000A0080000008"}, 0x800))
+        program = taken_in(chanv, job_of(chanv, {**TWO_WAYS, 0x810: f"{code}000A0080000008"}, 0x800))
         seen = program.hangs_at, program.hangs_entered
         checks.expect(f"a hang in the data chain of {code}", (0x7F0, entered), seen)
-    ends = chanv.needs(job_of(chanv, LOOP, 0x800))
+    ends = taken_in(chanv, job_of(chanv, LOOP, 0x800))
     checks.expect("no hang", (None, None), (ends.hangs_at, ends.hangs_entered))
 
 
@@ -187,7 +190,7 @@ def check_devices(checks, chanv):
         checks.expect(f"on a {device}, open text", line, told)
         starts = [] if device == 2311 else [0x800]
         checks.expect(f"on a {device}, find", starts, chanv.find(job.storage, device))
-        told, needed = chanv.why(job), error_of(lambda: chanv.needs(job))
+        told, needed = chanv.why(job), error_of(lambda: taken_in(chanv, job))
         if device == 2311:
             checks.expect(f"on a {device}, how many heads", heads, told.values["below"])
             checks.expect(f"on a {device}, needs", line, str(needed.verdict))
@@ -197,7 +200,7 @@ def check_devices(checks, chanv):
     checks.expect("find, usually", [0x800], chanv.find(storage_of(words)))
     checks.expect("a job, usually", 2314, job_of(chanv, words, 0x800).device)
     asked = {
-        device: chanv.needs(job_of(chanv, LOOP, 0x800, device=device)) for device in (2311, 2314)
+        device: taken_in(chanv, job_of(chanv, LOOP, 0x800, device=device)) for device in (2311, 2314)
     }
     for device, program in asked.items():
         checks.expect(f"a program for a {device}", device, program.device)
@@ -266,20 +269,26 @@ FAULTS = [
 ]
 # the call that doesn't tell which extent is wrong
 WITHOUT_EXTENT = "text"
+# faults of what a job grants, which doesn't matter where a program is taken in
+OF_GRANTS = "NOT_A_MASK NO_EXTENT EXTENT_BACKWARDS EXTENT_PAST_DEVICE".split()
 
 
 def check_codes(checks, chanv):
     enum = re.search(r"(?s)enum chanv_answer \{(.*?)\n\};", text_of(HEADER))[1]
     wanted = {name: int(number) for name, number in re.findall(r"CHANV_(\w+) = (\d+)", enum)}
     checks.expect("the codes", wanted, {it.name: int(it) for it in chanv.Answer})
-    program = chanv.needs(job_of(chanv, LOOP, 0x800))
-    calls = [getattr(chanv, it) for it in "verify places why text needs".split()]
+    program = taken_in(chanv, job_of(chanv, LOOP, 0x800))
+    calls = [getattr(chanv, it) for it in "verify places why text".split()]
+    calls.append(functools.wraps(chanv.take_in)(lambda job: taken_in(chanv, job)))
     for changes, name, extent in FAULTS:
         job = dataclasses.replace(job_of(chanv, LOOP, 0x800), **changes)
         for call in (*calls, may_start := lambda it: chanv.may_start(it, program, [])):
             about = f"{name}, {'may_start' if call is may_start else call.__name__}"
-            if call is may_start and name == "TOO_MANY_PLACES":
+            if call is may_start and name in ("TOO_MANY_PLACES", "NOT_A_LIMIT"):
                 checks.expect(about, "yes", str(call(job)))
+                continue
+            if call is calls[-1] and name in OF_GRANTS:
+                checks.expect(about, program, call(job))
                 continue
             told = 0 if call.__name__ == WITHOUT_EXTENT else extent
             check_no_answer(checks, chanv, about, error_of(lambda: call(job)), name, told)
@@ -375,14 +384,14 @@ def check_order(checks, chanv):
     comment = re.search(r"(?s)Why a program may not start(.*?)\*/", text_of(HEADER))[1]
     [first] = re.findall(r"looks\s+\*?\s*for (\d+) and then for \d+ at each", comment)
     over = {start: f"06{other:06X}20000008" for start, other in ((0x800, 0xC00), (0xC00, 0x800))}
-    one, other = (chanv.needs(job_of(chanv, over, start)) for start in over)
+    one, other = (taken_in(chanv, job_of(chanv, over, start)) for start in over)
     found = chanv.may_start(job_of(chanv, over, 0x800), one, [other]).refusal
     checks.expect("both conflicts with one program", chanv._word("refusal", int(first)), found)
     ends = {"first": 0x900, "least": 0x900, "greatest": 0x904}
     for name, kind in (("FETCHABLE", "fetch"), ("STORABLE", "store")):
         word = re.search(rf"NOT_{name} = .*?the (\w+) byte", text_of(HEADER))[1]
         ccw = {"fetch": "3100090020000005", "store": "0600090020000005"}[kind]
-        program = chanv.needs(job_of(chanv, {0x800: ccw}, 0x800))
+        program = taken_in(chanv, job_of(chanv, {0x800: ccw}, 0x800))
         job = job_of(chanv, {0x800: ccw}, 0x800, **{kind: [(0x901, 3)]})
         found = chanv.may_start(job, program, []).value
         checks.expect(f"the {word} byte that isn't lent, {kind}", ends[word], found)
@@ -470,7 +479,7 @@ def check_opened(checks, chanv, job):
 def check_programs(checks, chanv):
     """In flight only a program counts, or None; to start, only a program."""
     job = job_of(chanv, LOOP, 0x800)
-    program = chanv.needs(job)
+    program = taken_in(chanv, job)
     table = {0x190: program, 0: None}
     found = chanv.may_write((0x800, 1), table.values()).refusal
     checks.expect("a table's values", "writes-over-kept", found)
@@ -486,8 +495,6 @@ def check_programs(checks, chanv):
     for start in (None, 0, "", [program], job):
         found = error_of(lambda: chanv.may_start(job, start, []))
         checks.expect(f"a start of {type(start).__name__}", TypeError, type(found))
-        found = error_of(lambda: chanv.keeps_only(start, []))
-        checks.expect(f"what {type(start).__name__} keeps", TypeError, type(found))
     check_rows(checks, chanv, job, program)
     looks_alike = SimpleNamespace(**vars(program))
     found = error_of(lambda: chanv.may_start(job, looks_alike, []))
@@ -500,19 +507,19 @@ def check_rows(checks, chanv, job, program):
     """Rows of the table that are no program: they don't start, and others go round them."""
     over, beside = (0x817, 0x10), (0x818, 0x10)
     for row, refusal in [
-        (chanv.storing(over), "keeps-stored-over"),
-        (chanv.storing(beside), None),
-        (chanv.storing(beside, over), "keeps-stored-over"),
-        (chanv.keeping((0xA4F, 1)), "stores-over-kept"),
-        (chanv.keeping((0xA50, 1)), None),
-        (chanv.keeping(), None),
+        (chanv.Row(stores=over), "keeps-stored-over"),
+        (chanv.Row(stores=beside), None),
+        (chanv.Row(beside, (0xA4F, 1)), "stores-over-kept"),
+        (chanv.Row(keeps=(0xA4F, 1)), "stores-over-kept"),
+        (chanv.Row(keeps=(0xA50, 1)), None),
+        (chanv.Row(), None),
     ]:
         found = chanv.may_start(job, program, [row]).refusal
         checks.expect(f"a start beside {row}", refusal, found)
-        found = chanv.may_start(dataclasses.replace(job, start=0), row, []).refusal
-        checks.expect(f"a start of {row}", "other-device", found)
-    checks.expect("a write into a buffer", True, bool(chanv.may_write(over, [chanv.storing(over)])))
-    found = chanv.may_write((0xA, 0xA), [chanv.keeping((0x10, 8))])
+        found = error_of(lambda: chanv.may_start(job, row, []))
+        checks.expect(f"a start of {row}", TypeError, type(found))
+    checks.expect("a write into a buffer", True, bool(chanv.may_write(over, [chanv.Row(over)])))
+    found = chanv.may_write((0xA, 0xA), [chanv.Row(keeps=(0x10, 8))])
     checks.expect("a write over what is guarded", 0x10, found.value)
 
 
@@ -529,8 +536,8 @@ class Anew:
 def check_tables(checks, chanv):
     """A table of the programs in flight has to be there, and gives them each time anew."""
     job = job_of(chanv, LOOP, 0x800)
-    program = chanv.needs(job)
-    over = chanv.needs(job_of(chanv, {0xC00: "0600080020000008"}, 0xC00))
+    program = taken_in(chanv, job)
+    over = taken_in(chanv, job_of(chanv, {0xC00: "0600080020000008"}, 0xC00))
     ways = [list, tuple, set, collections.deque, lambda rows: dict(enumerate(rows)).values(), Anew]
     for how in ways:
         table = how([over])

@@ -12,7 +12,7 @@ from dataclasses import replace
 from types import ModuleType
 
 from building import HERE
-from package import FOLDER, package
+from package import FOLDER, package, taken_in
 from python_edges import SIZE, error_of, job_of
 from running import text_of
 
@@ -48,14 +48,14 @@ CARELESS = [
     ("the table", ASKED, "may_start(job, program, [])"),
     ("the grants", ASKED, IGNORING.format(GRANTS)),
     ("the comparison", ASKED, IGNORING.format(("changed",))),
-    ("the row of a program", "enter(unit, program)", "enter(unit, keeping())"),
+    ("the row of a program", "enter(unit, program)", "enter(unit, Row())"),
     ("the question before a write", "if permission:\n                put()", "put()"),
     ("the question before a lasting write", LASTING, LASTING.replace(MAY, "Permission()")),
-    ("the row of a lasting write", "storing(area))", "storing())"),
-    ("the user's own storage", "yield keeps_only(program, own)", "yield Permission()"),
+    ("the row of a lasting write", "Row(stores=area))", "Row())"),
+    ("the user's own storage", "take_in(source, own,", "take_in(source, [(0, 1 << 24)],"),
     ("the look at what is guarded", "may_write(area, [program])", "Permission()"),
-    ("the row of what is guarded", "keeping(*self._guarded)", "keeping()"),
-    ("the lock", "= Lock()", "= __import__('contextlib').nullcontext()"),
+    ("the row of what is guarded", "Row(keeps=area)", "Row()"),
+    ("the lock", "= _Lock()", "= __import__('contextlib').nullcontext()"),
 ]
 
 
@@ -73,10 +73,16 @@ class Supervised:
     def __init__(self, chanv, module, accepts):
         self.chanv, self.module, self.storage = chanv, module, bytearray(STORAGE)
         everything = {"hanging": True, "interrupting": True, "ending_chains": True}
-        self.supervisor = module.Supervisor(
-            lambda unit, job: accepts(), own=OWN, guarded=[GUARDED], **everything
-        )
+
+        def start_io(_unit, job):
+            return self.begin(job) and accepts()
+
+        self.supervisor = module.Supervisor(start_io, own=OWN, guarded=[GUARDED], **everything)
         self.programs, self.waiting, self.harm = {}, [], None
+
+    def begin(self, job):
+        self.arm_of = job.extents[0][0]
+        return True
 
     def is_held(self):
         return getattr(self.supervisor._lock, "locked", lambda: False)()
@@ -102,6 +108,10 @@ class Supervised:
         except IndexError:
             return False  # without the lock another thread shortened the table
 
+    def arm(self):
+        """`start_io` begins with a prefix."""
+        return self.arm_of
+
     def leave(self, unit):
         self.waiting.append(unit)
         while self.waiting and not self.is_held():
@@ -116,12 +126,12 @@ class Threads(Flights):
         super().__init__(Supervised(chanv, module, lambda: self.below(8) != 0), seed)
         self.harm, self.is_within, self.areas, self.guarded = None, False, {}, ENDS
         self.put(GUARDED, ENDS)
-        for name in ("needs", "may_start", "may_write"):
+        for name in ("take_in", "may_start", "may_write"):
             setattr(module, name, self.watched(getattr(chanv, name)))
 
     def watched(self, ask):
-        def asking(*given):
-            answer = ask(*given)
+        def asking(*given, **named):
+            answer = ask(*given, **named)
             if not self.is_within:
                 self.is_within = True
                 self.harm = self.harm or self.meanwhile()
@@ -222,7 +232,7 @@ def check_refused(checks, chanv):
             line = f"no: {refusal} {at:06X}"
             checks.expect(f"{refusal} with {given}", (refusal, at, line), found)
         found = made(None, **ABOVE, **{name: True}).take_in(job)
-        checks.expect(f"{refusal}, taken in", chanv.needs(job), found)
+        checks.expect(f"{refusal}, taken in", taken_in(chanv, job), found)
     for start, own, guarded, refusal in [
         (0x80, ABOVE, [], None),
         (0x78, ABOVE, [], ("keeps-outside", 0x78)),
@@ -235,7 +245,8 @@ def check_refused(checks, chanv):
         job, about = job_of(chanv, {start: READ}, start), f"{start:X}, own {own}, {guarded} guarded"
         found = refusal_of(lambda: made(None, **own, guarded=guarded).take_in(job))
         checks.expect(f"at {about}", refusal, found and found[:2])
-        found = refusal_of(lambda: made(None, own=[], guarded=iter(guarded)).take_in(job, **own))
+        every = made(None, own=iter([(0, 0x1000000)]), guarded=iter(guarded))
+        found = refusal_of(lambda: every.take_in(job, **own))
         checks.expect(f"at {about}, for one user", refusal, found and found[:2])
     wide = made(None, own=[(0, SIZE)])
     loop = job_of(chanv, {0: "0600010040000010", 8: "0800000000000000"}, 0)
@@ -248,19 +259,19 @@ def check_tries(checks, chanv):
     """A program that changes each time isn't taken in without end."""
     module, job, asked = module_of(text_of(SUPERVISOR)), job_of(chanv, {0x80: READ}, 0x80), []
     for count, code, wanted, calls in [
-        (0, "CHANGED_MEANWHILE", chanv.needs(job), 1),
-        (7, "CHANGED_MEANWHILE", chanv.needs(job), 8),
+        (0, "CHANGED_MEANWHILE", taken_in(chanv, job), 1),
+        (7, "CHANGED_MEANWHILE", taken_in(chanv, job), 8),
         (8, "CHANGED_MEANWHILE", None, 8),
         (1, "MEMORY", None, 1),
     ]:
-        def needs(job):
+        def take_in(job, own, **allowed):
             asked.append(job)
             if len(asked) <= count:
                 raise chanv.NoAnswer(chanv.Answer[code])
-            return chanv.needs(job)
+            return chanv.take_in(job, own, **allowed)
 
         asked.clear()
-        module.needs = needs
+        module.take_in = take_in
         found = error_of(lambda: module.Supervisor(None, **ABOVE).take_in(job))
         wanted = wanted or chanv.Answer[code]
         checks.expect(f"{code}, {count} times", wanted, getattr(found, "code", found))
@@ -289,7 +300,7 @@ def check_starts(checks, chanv):
         ("that the channel doesn't accept", False, 0x191, 0x80, "no: not-accepted"),
         ("once more", True, 0x191, 0x80, "yes"),
         ("on a unit in use", None, 0x191, 0x80, "no: unit-in-use"),
-        ("over its CCW", None, 0x190, 0x90, "no: stores-over-kept 000084 by program 401"),
+        ("over its CCW", None, 0x190, 0x90, "no: stores-over-kept 000084 by unit 401"),
         ("over what is guarded", None, 0x190, 0xA0, "no: stores-over-kept 000F04"),
         ("of the same on another unit", True, 0, 0x80, "yes"),
     ]:
@@ -305,8 +316,43 @@ def check_starts(checks, chanv):
         supervisor.leave(unit)
         found = error_of(lambda: supervisor.leave(unit))
         checks.expect("a leave of a free unit", KeyError, type(found))
-    accepts.append(1)
+    accepts.append(True)
     checks.expect("a start when all have left", "yes", start(0x190, 0x90))
+    supervisor.leave(0x190)
+    # what may be a condition code, or a forgotten return, frees no unit
+    for accepted in (None, 0, 1):
+        accepts.append(accepted)
+        checks.expect(f"a start over {accepted}", TypeError, type(start(0x190, 0x90)))
+        checks.expect(f"after {accepted}", "no: unit-in-use", start(0x190, 0x90))
+        supervisor.leave(0x190)
+    for call in (lambda: supervisor.leave(5), lambda: supervisor.write((0, 1), print)):
+        found = error_of(lambda: supervisor.write((0, 1), call))
+        checks.expect("a call of the supervisor under its lock", RuntimeError, type(found))
+    checks.expect("a write after it", "yes", str(supervisor.write((0, 1), lambda: None)))
+    source, program = jobs[0x90].source, programs[0x90]
+    found = error_of(lambda: supervisor.start(0x190, source, program))
+    checks.expect("a start of a source", TypeError, type(found))
+
+
+def check_owned(checks, chanv):
+    """What a user owns is part of what all users own, by areas of any order and number."""
+    job = job_of(chanv, {0x80: READ}, 0x80)
+    for all_users, own, refused in [
+        ([(0x80, 8)], [(0, 0x1000)], None),
+        ([(0x7C, 8), (0x84, 8)], [(0x86, 2), (0x80, 6)], None),
+        ([(0x80, 7), (0x88, 8)], [(0, 0x1000)], "no: keeps-outside 000087"),
+        ([(0, 0x1000)], [(0x81, 0x100)], "no: keeps-outside 000080"),
+        ([(0, 0x80)], [(0x80, 8)], "no: keeps-outside 000080"),
+        ([(0, 0x1000)], [], "no: keeps-outside 000080"),
+    ]:
+        supervisor = chanv.supervisor.Supervisor(None, own=all_users)
+        found = error_of(lambda: supervisor.take_in(job, own))
+        what = str(getattr(found, "permission", "taken in"))
+        checks.expect(f"{own} of {all_users}", refused or "taken in", what)
+    for own in [(0x800, 0x800), [(1,)], [(0.5, 1)]]:
+        found = error_of(lambda: chanv.supervisor.Supervisor(None, own=own))
+        is_refused = isinstance(found, (TypeError, ValueError))
+        checks.expect_that(f"{own} isn't a list of areas", is_refused, found)
 
 
 def check_writes(checks, supervisor):
@@ -319,7 +365,7 @@ def check_writes(checks, supervisor):
     for area, line in [
         ((0x80, 0), "yes"),
         ((0x88, 8), "yes"),
-        ((0x79, 8), "no: writes-over-kept 000080 by program 401"),
+        ((0x79, 8), "no: writes-over-kept 000080 by unit 401"),
         ((0xF07, 1), "no: writes-over-kept 000F07"),
     ]:
         seen.clear()
@@ -350,10 +396,10 @@ def check_many(checks, chanv):
             (at + 0x10, END, "keeps-stored-over", at + 0x10),
         ]:
             job = job_of(chanv, {start: word}, start)
-            line = f"no: {refusal} {byte:06X} by program {unit}"
+            line = f"no: {refusal} {byte:06X} by unit {unit}"
             found = str(supervisor.start(MANY, job, supervisor.take_in(job)))
             checks.expect(f"{refusal} of {MANY}", line, found)
-        line = f"no: writes-over-kept {at:06X} by program {unit}"
+        line = f"no: writes-over-kept {at:06X} by unit {unit}"
         checks.expect("a write", line, str(supervisor.write((at, 1), lambda: None)))
         checks.expect("a lasting write", line, str(supervisor.begin_write(MANY, (at, 1))))
 
@@ -363,7 +409,7 @@ def check_lasting(checks, chanv):
     supervisor = chanv.supervisor.Supervisor(lambda unit, job: True, **ABOVE)
     job = job_of(chanv, {0x80: READ}, 0x80)
     program = supervisor.take_in(job)
-    over = "no: keeps-stored-over 000087 by program 0"
+    over = "no: keeps-stored-over 000087 by unit 0"
     for area, line in [((0x88, 8), "yes"), ((0x87, 1), over)]:
         checks.expect("a write that lasts", True, bool(supervisor.begin_write(0, area)))
         checks.expect(f"a start beside {area}", line, str(supervisor.start(1, job, program)))
@@ -383,10 +429,10 @@ def check_given(checks, chanv):
     asks = {0x80: "0600010048000010", 0x88: END}
     interrupting = job_of(chanv, asks, 0x80)
     for about, asked, given in [
-        ("that `needs` made", job, chanv.needs(job)),
-        ("that interrupts", interrupting, chanv.needs(interrupting)),
+        ("that `take_in` made", job, taken_in(chanv, job)),
+        ("that interrupts", interrupting, taken_in(chanv, interrupting)),
         ("of another supervisor", job, made(None, **ABOVE).take_in(job)),
-        ("that is a row", job, chanv.storing((0, 8))),
+        ("that is a row", job, chanv.Row((0, 8))),
     ]:
         found = error_of(lambda: supervisor.start(1, asked, given))
         checks.expect(f"a start of a program {about}", ValueError, type(found))
@@ -432,6 +478,7 @@ def check(checks, built):
     check_refused(checks, chanv)
     check_tries(checks, chanv)
     check_starts(checks, chanv)
+    check_owned(checks, chanv)
     check_many(checks, chanv)
     check_lasting(checks, chanv)
     check_given(checks, chanv)

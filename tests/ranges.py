@@ -3,8 +3,8 @@
     tests/run ranges
 
 Over each example deck and over random jobs, the range goes from before the first reachable CCW to
-behind the last one. A doubleword behind one that chains data counts as a part of its chain, any
-other as a CCW that begins an operation, so a program with several mistakes is seen in one round. A
+behind the last one. A doubleword behind one that chains data counts as a part of its chain, also if
+that one comes before the range; any other as a CCW that begins an operation, so a program with several mistakes is seen in one round. A
 transfer to where no CCW can be counts as a mistake.
 Further rows are about the ends of a range, what isn't one, and several FILEs.
 """
@@ -44,18 +44,33 @@ def entered_behind(place, ccw):
     return WAYS_BY_KIND.get(kind_at(place, ccw), FRESH)
 
 
+def chains_data(job, address):
+    ccw = ccw_at(job.storage, address) if address >= 0 else None
+    return ccw and ccw.flags & 0x80 and not ccw.is_transfer()
+
+
 def rows_of(job, first, last):
+    first = begin = first // 8 * 8
+    while chains_data(job, begin - 8):
+        begin -= 8
     entered = FRESH
-    for address in range(first // 8 * 8, min(last + 1, len(job.storage)), 8):
-        place, ccw = Place(address, entered, False), ccw_at(job.storage, address)
-        fault, at = own_fault(job, place), place
-        if ccw and ccw.is_transfer() and not fault:
-            [at] = successors(place, ccw)
-            fault = own_fault(job, at) if own_fault(job, at) in NOWHERE else None
-        yield f"{row_of(job, place, fault)} {setting_text(job, place)}".rstrip()
-        if fault:
-            yield f"because {CAUSES[fault](Case(job, {}, at, at == first_place(job), ccw))}"
-        entered = entered_behind(place, ccw)
+    for address in range(begin, min(last + 1, len(job.storage)), 8):
+        row = [*row_of_place(job, address, entered)]
+        entered = row.pop()
+        yield from row if address >= first else []
+
+
+def row_of_place(job, address, entered):
+    """The row of a doubleword, its cause if it has a fault, and how the next is entered."""
+    place, ccw = Place(address, entered, False), ccw_at(job.storage, address)
+    fault, at = own_fault(job, place), place
+    if ccw and ccw.is_transfer() and not fault:
+        [at] = successors(place, ccw)
+        fault = own_fault(job, at) if own_fault(job, at) in NOWHERE else None
+    yield f"{row_of(job, place, fault)} {setting_text(job, place)}".rstrip()
+    if fault:
+        yield f"because {CAUSES[fault](Case(job, {}, at, at == first_place(job), ccw))}"
+    yield entered_behind(place, ccw)
 
 
 def listed(job, first, last, verdict):
@@ -63,7 +78,7 @@ def listed(job, first, last, verdict):
 
 
 def check_jobs(checks, program, room):
-    faults = 0
+    faults = chains = 0
     for path, job in decks_and_jobs(room, SEED, JOBS):
         answer = Answer(job)
         if answer.is_too_large:
@@ -75,7 +90,15 @@ def check_jobs(checks, program, room):
         ran = run(program, "list", "--range", f"{first:X}-{last:X}", path)
         checks.expect(f"list --range over {path.stem}", Ran(int(bool(answer.found)), wanted), ran)
         faults += wanted.count("because ")
+        # from the first doubleword on behind one that chains data
+        behind = [at + 8 for at in sorted(addresses) if at % 8 == 0 and chains_data(job, at)]
+        if behind and behind[0] < len(job.storage):
+            wanted = listed(job, behind[0], last, answer.verdict)
+            ran = run(program, "list", "--range", f"{behind[0]:X}-{max(last, behind[0]):X}", path)
+            checks.expect(f"list --range within a chain of {path.stem}", Ran(int(bool(answer.found)), wanted), ran)
+            chains += 1
     checks.expect_that("many faults are listed", faults > JOBS, faults)
+    checks.expect_that("many ranges begin within a chain", chains > JOBS // 8, chains)
 
 
 def check_ends(checks, program):
@@ -87,6 +110,7 @@ def check_ends(checks, program):
         ("807+1", 0x807, 0x807),
         ("0x807+2", 0x807, 0x808),
         ("800+0", 0x800, 0x7FF),
+        ("803+0", 0x808, 0x7FF),
         (f"{size - 8:x}-{size + 99:X}", size - 8, size),
         (f"{size:X}+8", size, size - 1),
         ("FFFFF8-FFFFFF", size, size - 1),

@@ -104,7 +104,7 @@ EXCEPTIONS = {("graph", "stores over all")}
 WORDS = [
     ("deck --device 2314 --start 0 --extent 0-202 --storage 1000", "--fetch 900+10", 500, 0),
     ("deck --device 2314 --start 0 --storage 1000", "--extent 0-202", 500, 0),
-    ("explain", "misaligned", 500, 4),
+    ("explain", "misaligned", 500, 0),
     ("explain", "sek", 500, 4),
     ("verify", "no-such-file", 200, 3),
 ]

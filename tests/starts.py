@@ -1,4 +1,4 @@
-"""Starts, writes of others and kept bytes: the library over random rows, and a second reading.
+"""Starts, writes of others and what a user owns: the library over random rows, and a second reading.
 
 The reading is from the header: what is compared, in which order, and which byte or cylinder is
 named. Rows come from anywhere: they overlap, aren't sorted, are empty or lie past storage; kept
@@ -80,13 +80,18 @@ def refusal_of(job, program, in_flight):
     return conflict_of(program, in_flight)
 
 
+def lists_of(row):
+    """What a row stores over, and what it keeps."""
+    if row is None:
+        return [], []
+    return (row.store, row.keep) if hasattr(row, "kept") else ([row.stores], [row.keeps])
+
+
 def conflict_of(program, in_flight):
-    for number, other in enumerate(in_flight):
-        if other is None:
-            continue
+    for number, (others_store, others_keep) in enumerate(map(lists_of, in_flight)):
         for word, store, keep in [
-            ("stores-over-kept", program.store, other.keep),
-            ("keeps-stored-over", other.store, program.keep),
+            ("stores-over-kept", program.store, others_keep),
+            ("keeps-stored-over", others_store, program.keep),
         ]:
             byte = least(bytes_of(store) & bytes_of(keep))
             if byte is not None:
@@ -96,14 +101,14 @@ def conflict_of(program, in_flight):
 
 def keeper_of(area, in_flight):
     for number, other in enumerate(in_flight):
-        byte = least(bytes_of([area]) & bytes_of(other.keep)) if other else None
+        byte = least(bytes_of([area]) & bytes_of(lists_of(other)[1]))
         if byte is not None:
             return "writes-over-kept", byte, number
     return None
 
 
-def outside(program, areas):
-    byte = least(bytes_of(program.keep) - bytes_of(areas))
+def outside(keep, areas):
+    byte = least(bytes_of(keep) - bytes_of(areas))
     return None if byte is None else ("keeps-outside", byte, None)
 
 
@@ -157,16 +162,30 @@ class Dice(random.Random):
         if self.is_rare():
             return None
         if self.is_rare():
-            return self.choice([chanv.storing, chanv.keeping])(self.area())
+            areas = self.area(), self.choice([(0, 0), self.area()])
+            return chanv.Row(*areas) if self.randrange(2) else chanv.Row(*areas[::-1])
         return self.program(chanv, job)
 
 
 def told(permission):
-    return None if permission else (permission.refusal, permission.value, permission.program)
+    return None if permission else (permission.refusal, permission.value, permission.row)
+
+
+def taken_in_for(chanv, source, own):
+    """The refusal of a program whose user owns these areas."""
+    try:
+        chanv.take_in(source, own)
+    except chanv.Refused as refused:
+        return told(refused.permission)
+    return None
 
 
 def check(checks, built):
     chanv, dice, seen, numbers = package(built), Dice(SEED), set(), set()
+    # it reads three bytes, by CCWs that are kept
+    kept = [(8, 24)]
+    ccws = bytes.fromhex("0600000060000001 0600000160000001 0600000220000001")
+    source = chanv.Source(bytes(8) + ccws + bytes(SIZE - 32), 8)
     for number in range(CASES):
         job = dice.job(chanv)
         program, in_flight = dice.program(chanv, job), dice.in_flight(chanv, job)
@@ -177,9 +196,9 @@ def check(checks, built):
         wanted_write = keeper_of(area, in_flight)
         checks.expect(f"write {number}", wanted_write, told(chanv.may_write(area, in_flight)))
         areas = dice.areas(6) if dice.randrange(2) else [(16, SIZE), (0, 16)]
-        wanted_kept = outside(program, areas)
-        checks.expect(f"areas {number}", wanted_kept, told(chanv.keeps_only(program, areas)))
-        answers = wanted, wanted_write, wanted_kept
+        wanted_own = outside(kept, areas)
+        checks.expect(f"areas {number}", wanted_own, taken_in_for(chanv, source, areas))
+        answers = wanted, wanted_write, wanted_own
         seen |= {answer[0] if answer else "yes" for answer in answers}
         numbers |= {(answer[0], answer[2]) for answer in answers if answer}
     checks.expect("each answer comes", {*ANSWERS}, seen)

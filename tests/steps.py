@@ -21,6 +21,7 @@ STEPS = {
     "link": ["rt", *LINKING],
     "coq": ["coqc", "coq_makefile", "ocamlopt", "python3"],
     "rustc": ["python3", *LINKING],
+    "deb": ["dpkg-buildpackage", "dh", "dh_python3"],
     "test": ["rt", *LINKING, "bash", "nm", "readelf"],
 }
 OF_THE_KIT = ["prove", "link", "test"]
@@ -117,7 +118,7 @@ def check_broken(checks, room):
         return
     copy = room / "copy"
     copy.mkdir()
-    for name in ("Makefile", "crates.txt", "HANDLES", "tests/tools", "examples", "crates"):
+    for name in ("Makefile", "install.mk", "crates.txt", "HANDLES", "tests/tools", "examples", "crates"):
         at = copy / name
         at.parent.mkdir(exist_ok=True)
         if (ROOT / name).is_dir():

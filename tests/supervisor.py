@@ -22,7 +22,6 @@ from flying import STORAGE, Flights  # noqa: E402
 SUPERVISOR = ROOT / "examples/c/supervisor.c"
 SEEDS, STARTS = range(1, 6), 4000
 
-NO_ROOM, MAY_HANG, INTERRUPTS, KEEPS_OUTSIDE = 11, 100, 101, 102
 # What a careless supervisor leaves out: a name, the text of the check, and the text in its place.
 # The middle two take certain refusals for a yes.
 DENIED = "&taken->program, &refusal) != CHANV_YES)"
@@ -40,14 +39,21 @@ CARELESS = [
         "&taken->program, &refusal) == CHANV_NO && refusal.code != CHANV_REFUSED_CHANGED)",
     ),
     ("hands off", "&refusal) == CHANV_YES;", "&refusal) <= CHANV_NO;"),
-    ("a look at the unit", "in_flight[unit].device != 0", "unit < 0"),
-    ("a look at what is kept", "own.len, &refusal) != CHANV_YES", "own.len, &refusal) > CHANV_NO"),
-    ("a row of the prefixes", "chanv_row_keeping(area,", "chanv_row_storing(area,"),
+    ("a look at the unit", "in_flight[unit].program.device != 0", "unit < 0"),
+    (
+        "the users' own storage",
+        "&source, &own,",
+        "&source, &(struct chanv_areas){&(struct chanv_area)CHANV_ALL_STORAGE, 1},",
+    ),
+    ("a row of the prefixes", ".keeps = area", ".stores = area"),
+    ("a prefix", "memcpy(storage + address, prefix, len);", "(void)storage;"),
 ]
+# what its caller forgets: a name, and the word for it in c/flights.c
+FORGOTTEN = [("memory of its own", "SHARES_MEMORY"), ("waiting for the end", "LEAVES_EARLY")]
 # where the machine itself stores, and where the prefixes stand, as c/flights.c has them
 MACHINE, PREFIXES = slice(0x240, 0x260), slice(0x5C0, 0x5E0)
 
-MAY = "needed->may_hang "
+MAY = "allowed = CHANV_ALLOW_ENDING_CHAINS"
 
 
 class Supervisor:
@@ -83,6 +89,10 @@ class Supervisor:
     def start(self, number, device, job):
         return self.library.flights_start(number, device, byref(self.made(job)))
 
+    def arm(self):
+        cylinder = self.library.flights_arm()
+        return None if cylinder < 0 else cylinder
+
     def leave(self, device):
         self.library.flights_leave(device)
 
@@ -103,11 +113,12 @@ class Beside(Flights):
         return harm or ("over a prefix" if self.storage[PREFIXES] != self.prefixes else None)
 
 
-def compile_flights(library, supervisor, folder, seed):
+def compile_flights(library, supervisor, folder, seed, *forgotten):
     """A library with a supervisor, for each seed another, because it has a table of its own."""
     folder.mkdir(exist_ok=True)
     (folder / "supervisor.c").write_text(supervisor)
     linked = [f"-I{library}", f"-I{folder}", library / "libchanv.a", "-shared", "-fPIC"]
+    linked += [f"-D{word}=1" for word in forgotten]
     return compile_c(HERE / "c/flights.c", folder / f"{seed}.so", *FLAGS, *linked)
 
 
@@ -124,39 +135,44 @@ def check_careless(checks, c, library, room):
     text = text_of(SUPERVISOR)
     for name, old, new in CARELESS:
         checks.expect(f"the supervisor has {name}, once", 1, text.count(old))
-        careless = text.replace(old, new)
-        made = (compile_flights(library, careless, room / name, seed) for seed in SEEDS)
-        harms = (Beside(Supervisor(c, it), seed).fly(STARTS) for it, seed in zip(made, SEEDS))
-        harm = next(filter(None, harms), None)
-        checks.expect_that(f"without {name} a program comes to harm", harm, "no harm")
+        check_harm(checks, c, library, room, name, text.replace(old, new))
+    for name, word in FORGOTTEN:
+        check_harm(checks, c, library, room, name, text, word)
+
+
+def check_harm(checks, c, library, room, name, supervisor, *forgotten):
+    made = (compile_flights(library, supervisor, room / name, seed, *forgotten) for seed in SEEDS)
+    harms = (Beside(Supervisor(c, it), seed).fly(STARTS) for it, seed in zip(made, SEEDS))
+    harm = next(filter(None, harms), None)
+    checks.expect_that(f"without {name} a program comes to harm", harm, "no harm")
 
 
 def answers_wanted():
     """What c/answers.c prints: only what was taken in starts, and writes know its rows."""
     for name, answer in [
-        ("2 rows", 0),
-        ("127 rows", 0),
-        ("128 rows", NO_ROOM),
-        ("2032 kept bytes", 0),
-        ("2040 kept bytes", NO_ROOM),
-        ("a code of no command", 1),
-        ("for a 2311", 0),
-        ("for a 2314", 0),
-        ("a loop", MAY_HANG),
-        ("a loop", 0),
-        ("outside its own storage", KEEPS_OUTSIDE),
-        ("an interruption", INTERRUPTS),
-        ("an interruption", 0),
+        ("2 rows", "yes"),
+        ("127 rows", "yes"),
+        ("128 rows", "no-room"),
+        ("2032 kept bytes", "yes"),
+        ("2040 kept bytes", "no-room"),
+        ("a code of no command", "no"),
+        ("for a 2311", "yes"),
+        ("for a 2314", "yes"),
+        ("a loop", "no"),
+        ("a loop", "yes"),
+        ("outside its own storage", "no"),
+        ("an interruption", "no"),
+        ("an interruption", "yes"),
     ]:
-        started = f"{name}: {answer}, {'held back' if answer else 'started'}"
+        started = f"{name}: {answer}, {'started' if answer == 'yes' else 'held back'}"
         other = {"for a 2311": ", on a 2314 held back", "for a 2314": ", on a 2311 held back"}
         yield started + other.get(name, "")
     yield "prefix 07003F1840000006 1F003F1E40000001 0800080000000000 0000000A00008000: yes"
-    yield "over the prefixes: 0, held back"
-    yield "just before the prefixes: 0, started"
-    yield "emulated 2 rows: 0, there"
-    yield "emulated a code of no command: 1, not there"
-    yield "emulated chain data where nothing moves: 1, not there"
+    yield "over the prefixes: yes, held back"
+    yield "just before the prefixes: yes, started"
+    yield "emulated 2 rows: yes, there"
+    yield "emulated a code of no command: no, not there"
+    yield "emulated chain data where nothing moves: no, not there"
     for write, allowed in [
         ("0 800", True),
         ("0 801", False),
@@ -181,8 +197,8 @@ def check_answers(checks, library, room):
     ran = run(compile_answers(library, text, room / "each answer"))
     wanted = "".join(f"{line}\n" for line in answers_wanted())
     checks.expect("each answer of chanv_take_in", Ran(0, wanted), ran)
-    checks.expect("the supervisor looks for a program that may hang, once", 1, text.count(MAY))
-    careless = text.replace(MAY, "0 ")
+    checks.expect("the supervisor says what programs may do, once", 1, text.count(MAY))
+    careless = text.replace(MAY, "allowed = CHANV_ALLOW_ENDING_CHAINS | CHANV_ALLOW_HANGING")
     ran = run(compile_answers(library, careless, room / "any program"))
     checks.expect_that("or else it starts", ran != Ran(0, wanted), ran)
 

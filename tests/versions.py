@@ -28,6 +28,9 @@ def check(checks, _built):
         found = re.search(pattern, text_of(ROOT / name))
         seen = ".".join(found.groups()) if found else None
         checks.expect(f"the version in {name}", version(), seen)
-    soname = f"libchanv.so.{version().rpartition('.')[0]}"
+    soname = f"libchanv.so.{version().split('.')[0]}"
     for name in ("crates/chanv_c/include/layout.txt", "python/chanv/_c.py"):
         checks.expect_that(f"the soname in {name}", soname in text_of(ROOT / name), soname)
+    package = f"Package: {soname.replace('.so.', '')}\n"
+    control = text_of(ROOT / "debian/control")
+    checks.expect_that("the soname in debian/control", package in control, package)

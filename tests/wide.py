@@ -141,7 +141,7 @@ def done_by(job, faults, place, ccw):
     verb = verb_of(place, ccw)
     if not verb:
         return ""
-    until = " until found" if is_repeated(job, faults, place) else ""
+    until = ", until found" if is_repeated(job, faults, place) else ""
     return f"{verb}{amount_of(ccw)}{until}{compared_by(job, faults, place)}"
 
 

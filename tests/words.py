@@ -8,8 +8,9 @@ docs/OUTPUT.md, in this order, and last a deck, which is judged yes. The command
 are words too, each with its code.
 Each word that `verify`, `list`, `why`, `needs`, `graph` or `find` writes about an example is known,
 and so are codes, the names of further codes, masks, and flags as a row shows them. Any other word
-is refused, and the nearest is named. And `chanv why` gives the cause of each example deck's no in a
-form that the row of its reason in docs/OUTPUT.md shows; each reason has an example.
+is refused, and the nearest is named. Several words that aren't a phrase are explained in turn. And
+`chanv why` gives the cause of each example deck's no in a form that the row of its reason in
+docs/OUTPUT.md shows; each reason has an example.
 """
 
 import re
@@ -145,6 +146,7 @@ OTHER_CODES = {
     "08": "transfer, {transfer}; no mask inhibits it",
     "f8": "transfer, {transfer}; no mask inhibits it",
 }
+NAMED_OUTSIDE = r"(?m)^(\w\w): group [a-z-]+, ([a-z-]+): not in the table of commands"
 NO_MASKS = {"20": "20", "ff": "FF", "01": "01"}
 
 
@@ -190,6 +192,11 @@ def check_codes(checks, program, meanings):
     for code, said in OTHER_CODES.items():
         line = f"{code.upper()}: group {said.format(transfer=transfer)}\n"
         checks.expect(code, Ran(0, line), run(program, "explain", code))
+    seen = run(program, "explain", *(f"{code:02X}" for code in range(256))).output
+    names = {int(code, 16): f" ({name})" for code, name in re.findall(NAMED_OUTSIDE, seen)}
+    for code in sorted({*names, *FURTHER}):
+        about = f"the row of {code:02X} under Further codes of docs/OUTPUT.md"
+        checks.expect(about, names.get(code), FURTHER.get(code))
     for code, named in FURTHER.items():
         name = named[2:-1]
         said = f"group {group_of(code)}, {name}: not in the table of commands that chanv knows"
@@ -304,6 +311,19 @@ def check_flags(checks, program, meanings):
         checks.expect(f"{word}, which isn't flags", (4, ""), (ran.status, ran.output))
 
 
+def check_several(checks, program, explained):
+    """Words that aren't one phrase are explained in turn, and each line on a word names it."""
+    ran = run(program, "explain", *explained)
+    checks.expect("all words at once", Ran(0, "".join(explained.values())), ran)
+    first, *_, last = explained
+    for word, nearest in UNKNOWN.items():
+        near = f"the nearest is {nearest}, and " if nearest else ""
+        said = f"chanv: {word}: no such word; {near}{LISTS_ALL}\n"
+        refused = Ran(4, explained[first] + explained[last], said)
+        ran = run(program, "explain", first, word, last)
+        checks.expect(f"'{word[:20]}' among others", refused, ran)
+
+
 def check(checks, built):
     program, explained, listed = built.chanv(), meanings(), []
     rows = re.findall(ROW, text_of(WORDS))
@@ -326,6 +346,7 @@ def check(checks, built):
         near = f"the nearest is {nearest}, and " if nearest else ""
         refused = Ran(4, "", f"chanv: no such word; {near}{LISTS_ALL}\n")
         checks.expect(f"'{word[:20]}'", refused, run(program, "explain", word))
+    check_several(checks, program, explained)
     check_printed(checks, program)
     check_flags(checks, program, explained)
     check_codes(checks, program, explained)

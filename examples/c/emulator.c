@@ -1,7 +1,6 @@
 /* An emulator whose threads write storage all the time takes a program in, and asks whether it may
  * start. It stops none of them, and copies nothing. */
 #include <chanv.h>
-#include <string.h>
 
 enum { ROOM = 262144, MOST_TIMES = 8 };
 
@@ -15,17 +14,19 @@ struct asked {
 /* Takes the job's program in. chanv judges a private copy of what the program keeps, and says so if
  * storage changed too much for that. A program that changes each time isn't taken in. Nor is one
  * with a No Operation or a Recalibrate that has chain data on: chanv judges it only up to there, but
- * this emulator, like others, goes on. */
+ * this emulator, like others, goes on. The program may lie anywhere, may go on until it is halted,
+ * and may interrupt. */
 static enum chanv_answer ask(struct asked *asked, const struct chanv_job *job)
 {
+    static const struct chanv_area all = CHANV_ALL_STORAGE;
+    struct chanv_areas own = {&all, 1};
+    struct chanv_source source = {
+        .storage = job->storage, .start = job->start, .limit = job->limit, .device = job->device};
     enum chanv_answer answer = CHANV_CHANGED_MEANWHILE;
-    struct chanv_needed needed;
     for (int i = 0; i < MOST_TIMES && answer == CHANV_CHANGED_MEANWHILE; i++)
-        answer = chanv_take_in(job, asked->memory, ROOM, NULL, &asked->program, &needed);
-    if (answer != CHANV_OK || !needed.ends_chaining)
-        return answer;
-    memset(&asked->program, 0, sizeof asked->program);
-    return CHANV_NO;
+        answer = chanv_take_in(&source, &own, CHANV_ALLOW_HANGING | CHANV_ALLOW_INTERRUPTING,
+                               asked->memory, ROOM, NULL, &asked->program, NULL);
+    return answer;
 }
 
 /* Whether the program may start under a job now. Of storage only the kept bytes are looked at. From

@@ -9,12 +9,9 @@
 
 enum { UNITS = 8, ROWS = UNITS + 1, MOST_BYTES = 2048, PREFIX_BYTES = 32 };
 
-/* Why a program isn't taken in though some job will do for it. */
-enum { MAY_HANG = 100, INTERRUPTS = 101, KEEPS_OUTSIDE = 102 };
-
-/* Whether it takes in programs that, from some place on, only an error, an end of file, an
- * incorrect length or a halt ends; and programs that ask for program-controlled interruptions. */
-static int takes_hanging = 0, takes_interrupting = 0;
+/* What programs may do, a sum of `enum chanv_allowed`. On its disks a No Operation or a Recalibrate
+ * ends a program, also with chain data on. */
+static uint32_t allowed = CHANV_ALLOW_ENDING_CHAINS;
 
 /* What users own. All the rest is written without a question, by the supervisor and by the machine
  * itself, and the prefixes stand there. */
@@ -27,42 +24,27 @@ struct taken {
     uint8_t *memory;
 };
 
-/* The programs in flight, by the number of the unit; zeros are no program. The last row keeps the
+/* What is in flight, by the number of the unit; zeros are nothing. The last row keeps the
  * prefixes. */
-static struct chanv_program in_flight[ROWS];
-
-/* Why this supervisor refuses a program that was taken in, or CHANV_OK. */
-static uint32_t why_refused(const struct chanv_program *program, const struct chanv_needed *needed)
-{
-    struct chanv_refusal refusal;
-    if (chanv_check_kept(program, own.at, own.len, &refusal) != CHANV_YES)
-        return KEEPS_OUTSIDE;
-    if (needed->may_hang && !takes_hanging)
-        return MAY_HANG;
-    return needed->interrupts && !takes_interrupting ? INTERRUPTS : CHANV_OK;
-}
+static struct chanv_row in_flight[ROWS];
 
 /* Takes the job's program in, which isn't in flight now. Only after CHANV_OK may it start. The
  * channels of other programs may store meanwhile, even over this program: chanv judges a private
  * copy of what the program keeps. If it answers CHANV_CHANGED_MEANWHILE, the caller may ask again,
  * but not without end. */
-static uint32_t take_in(struct taken *taken, const struct chanv_job *job)
+static enum chanv_answer take_in(struct taken *taken, const struct chanv_job *job)
 {
-    struct chanv_needed needed;
-    uint32_t answer =
-        chanv_take_in(job, taken->memory, MOST_BYTES, NULL, &taken->program, &needed);
-    if (answer == CHANV_OK)
-        answer = why_refused(&taken->program, &needed);
-    if (answer != CHANV_OK)
-        memset(&taken->program, 0, sizeof taken->program);
-    return answer;
+    struct chanv_source source = {
+        .storage = job->storage, .start = job->start, .limit = job->limit, .device = job->device};
+    return chanv_take_in(&source, &own, allowed, taken->memory, MOST_BYTES, NULL, &taken->program,
+                         NULL);
 }
 
 /* Lets no program that starts from now on store over the prefixes: the jobs here may lend more than
- * users own. `area` stays where it is. It is called before the first start. */
-static void guard_prefixes(const struct chanv_area *area)
+ * users own. It is called before the first start. */
+static void guard_prefixes(struct chanv_area area)
 {
-    chanv_row_keeping(area, &in_flight[UNITS]);
+    in_flight[UNITS].keeps = area;
 }
 
 /* Puts the prefix with which a program starts into storage, at an address of the prefixes, a
@@ -83,11 +65,11 @@ static int put_prefix(uint8_t *storage, uint32_t address, const struct chanv_job
 static int start(const struct taken *taken, int unit, const struct chanv_job *job)
 {
     struct chanv_refusal refusal;
-    if (in_flight[unit].device != 0)
+    if (in_flight[unit].program.device != 0)
         return 0;
     if (chanv_check_start(job, in_flight, ROWS, &taken->program, &refusal) != CHANV_YES)
         return 0;
-    in_flight[unit] = taken->program;
+    in_flight[unit] = (struct chanv_row){.program = taken->program};
     return 1;
 }
 

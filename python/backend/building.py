@@ -1,13 +1,18 @@
 """Builds the package for pip, and writes only to the folder that pip names. It needs only Python.
 
 pip asks for a wheel, for one that refers to this checkout (`pip install -e`), or for an archive of
-the sources.
+the sources. `make wheel` asks for a wheel that has the library in it, for one kind of machine:
+
+    python3 backend/building.py FOLDER LIBRARY PLATFORM [MARK]
+
+MARK is what the version says of the library besides, such as `+not.proved`.
 """
 
 import base64
 import hashlib
 import io
 import re
+import sys
 import tarfile
 import zipfile
 from pathlib import Path
@@ -15,7 +20,8 @@ from pathlib import Path
 HERE = Path(__file__).resolve().parent.parent
 PACKAGE = [*sorted((HERE / "chanv").glob("*.py")), HERE / "chanv/py.typed"]
 SOURCES = [HERE / "pyproject.toml", HERE / "README.md", Path(__file__).resolve(), *PACKAGE]
-VERSION = re.findall(r'(?m)^VERSION = "(.*)"$', (HERE / "chanv/_c.py").read_text())[0]
+NAMED = re.compile(r'(?m)^(?:VERSION|SONAME) = "(.*)"$')
+VERSION, SONAME = NAMED.findall((HERE / "chanv/_c.py").read_text())
 NAME = f"chanv-{VERSION}"
 
 METADATA = f"""Metadata-Version: 2.1
@@ -27,7 +33,11 @@ Description-Content-Type: text/markdown
 
 {(HERE / "README.md").read_text()}"""
 
-WHEEL = "Wheel-Version: 1.0\nGenerator: chanv\nRoot-Is-Purelib: true\nTag: py3-none-any\n"
+WHEEL = """Wheel-Version: 1.0
+Generator: chanv
+Root-Is-Purelib: {}
+Tag: py3-none-{}
+"""
 
 
 def record_of(name, held):
@@ -35,21 +45,30 @@ def record_of(name, held):
     return f"{name},sha256={digest},{len(held)}\n"
 
 
-def write_wheel(folder, files):
+def write_wheel(folder, files, platform="any", mark=""):
     """A wheel with these files, each a name and its bytes, and what every wheel has."""
-    about = {"METADATA": METADATA, "WHEEL": WHEEL}
-    files = {**files, **{f"{NAME}.dist-info/{name}": it.encode() for name, it in about.items()}}
-    record = f"{NAME}.dist-info/RECORD"
+    metadata = METADATA.replace(f"\nVersion: {VERSION}\n", f"\nVersion: {VERSION}{mark}\n")
+    if mark:
+        metadata = metadata.replace("Proved answers", "Answers that nothing proves")
+    is_pure = str(platform == "any").lower()
+    about = {"METADATA": metadata, "WHEEL": WHEEL.format(is_pure, platform)}
+    info = f"{NAME}{mark}.dist-info"
+    files = {**files, **{f"{info}/{name}": it.encode() for name, it in about.items()}}
+    record = f"{info}/RECORD"
     files[record] = "".join([*map(record_of, files, files.values()), f"{record},,\n"]).encode()
-    wheel = f"{NAME}-py3-none-any.whl"
+    wheel = f"{NAME}{mark}-py3-none-{platform}.whl"
     with zipfile.ZipFile(Path(folder) / wheel, "w", zipfile.ZIP_DEFLATED) as out:
         for name, held in files.items():
             out.writestr(zipfile.ZipInfo(name, (1980, 1, 1, 0, 0, 0)), held)
     return wheel
 
 
+def packaged():
+    return {f"chanv/{it.name}": it.read_bytes() for it in PACKAGE}
+
+
 def build_wheel(folder, settings=None, metadata=None):
-    return write_wheel(folder, {f"chanv/{it.name}": it.read_bytes() for it in PACKAGE})
+    return write_wheel(folder, packaged())
 
 
 def build_editable(folder, settings=None, metadata=None):
@@ -64,3 +83,13 @@ def build_sdist(folder, settings=None):
         about.size = len(METADATA.encode())
         out.addfile(about, io.BytesIO(METADATA.encode()))
     return f"{NAME}.tar.gz"
+
+
+def build_whole(folder, library, platform, mark=""):
+    """A wheel with the library in the package, where the package looks for it."""
+    files = {**packaged(), f"chanv/{SONAME}": Path(library).read_bytes()}
+    return write_wheel(folder, files, platform, mark)
+
+
+if __name__ == "__main__":
+    print(build_whole(*sys.argv[1:]))

@@ -12,24 +12,25 @@ no 000810 store-not-lent
 >>> [f"{start:06X}" for start in find(storage)]
 ['000800']
 
-A supervisor asks what a program needs when it takes it in. Before each start and each write it asks
-again, and holds one lock from the question until the start or the write is done:
+A supervisor takes each program in: it says what the program's user owns, and learns what every job
+has to grant. Before each start and each write it asks again, and holds one lock from the question
+until the start or the write is done:
 
 >>> job = Job(storage, 0x800, extents=[(10, 19)], **lent)
->>> program = needs(job)
+>>> program = take_in(job, own=[(0x800, 0x800)])
 >>> in_flight = {}                                            # by device
 >>> if may_start(job, program, in_flight.values()):
 ...     in_flight[0x190] = program                            # until it has ended
 >>> print(may_write((0x900, 16), in_flight.values()))         # data may change
 yes
 >>> print(may_write((0x810, 8), in_flight.values()))
-no: writes-over-kept 000810 by program 0
+no: writes-over-kept 000810 by row 0
 
 `chanv.supervisor` has a class that does so. chanv.h has the caller's duties and the premises of
-these answers. The library is the one that CHANV_LIBRARY names, else the one in `lib` of the prefix
-where this package is installed, or in `out` of its checkout, or whatever the system finds under the
-library's name. It is loaded by the first call, which raises WrongLibrary if there is none of this
-version.
+these answers. The library is the one that CHANV_LIBRARY names, else the one in this package, in
+`lib` of the prefix where the package is installed, or in `out` of its checkout, or whatever the
+system finds under the library's name. It is loaded by the first call, which raises WrongLibrary if
+there is none of this version.
 """
 
 from array import array
@@ -55,18 +56,18 @@ __all__ = [
     "Permission",
     "Place",
     "Program",
+    "Refused",
+    "Row",
+    "Source",
     "Verdict",
     "WrongLibrary",
     "find",
-    "keeping",
-    "keeps_only",
     "library_version",
     "make_prefix",
     "may_start",
     "may_write",
-    "needs",
     "places",
-    "storing",
+    "take_in",
     "text",
     "verify",
     "why",
@@ -74,8 +75,8 @@ __all__ = [
 
 Storage = Union[bytes, bytearray, memoryview, mmap, "array[Any]"]
 Pairs = Sequence[Sequence[int]]
-# what is in flight: programs, with None for nobody, or the table of a supervisor
-_Table = Union[Collection["Program | None"], "_Flying"]
+# what is in flight: programs and rows, with None for nobody, or the table of a supervisor
+_Table = Union[Collection["Program | Row | None"], "_Flying"]
 
 # the values of each reason, by the names of chanv.h
 _VALUES = {
@@ -98,13 +99,13 @@ _VALUES = {
 }
 
 # the refusals with an address or a cylinder
-_WITH_VALUE = "changed no-cylinder not-fetchable not-storable keeps-outside".split()
-_WITH_VALUE += "stores-over-kept keeps-stored-over writes-over-kept".split()
+_WITH_VALUE = "changed no-cylinder not-fetchable not-storable keeps-outside may-hang".split()
+_WITH_VALUE += "interrupts ends-chaining stores-over-kept keeps-stored-over writes-over-kept".split()
 
 # what the open job of a program grants
 _ALL_CYLINDERS, _ALL_STORAGE, _OPEN_MASK = (0, 202), (0, 16777216), 0xC0
 
-# how many bytes `needs` hands in at first, which most programs don't fill
+# how many bytes `take_in` hands in at first, which most programs don't fill
 _ROOM = 1024
 # the most bytes that a prefix has
 _PREFIX = 32
@@ -154,6 +155,14 @@ class NoJob(Error):
         return f"no job will do: {self.verdict}"
 
 
+class Refused(Error):
+    """A program keeps or may do what isn't allowed, so it isn't taken in: its refusal, and where."""
+
+    def __init__(self, permission: "Permission") -> None:
+        super().__init__(permission)
+        self.permission = permission
+
+
 class _LaidOut:
     """What lays its lists out for C once, when it is made. Its fields alone are copied."""
 
@@ -169,6 +178,19 @@ class _LaidOut:
 
 
 @dataclass(frozen=True)
+class Source:
+    """A channel program, as a user hands it in. OverflowError: C has no such number."""
+
+    storage: Storage = field(repr=False)  # main storage from address 0 on
+    start: int  # the address of the first CCW
+    device: int = 2314  # the type of the device: 2311 or 2314
+    limit: int = 4096
+
+    def __post_init__(self) -> None:
+        _c.number(self.start, 32), _c.number(self.limit, 32), _c.number(self.device, 16)
+
+
+@dataclass(frozen=True)
 class Job(_LaidOut):
     """A channel program before its start, and all that it may use.
 
@@ -177,7 +199,7 @@ class Job(_LaidOut):
 
     `verify`, `places`, `why` and `text` copy storage that can change, because Python's other
     threads run meanwhile. With `copy=False` they don't: then nothing may write storage from the
-    call to its return. `needs` and `may_start` never copy it: they are right even while other
+    call to its return. `take_in` and `may_start` never copy it: they are right even while other
     threads write. `may_start` wants main storage itself, so it refuses `bytes`, which never change.
     """
 
@@ -196,6 +218,11 @@ class Job(_LaidOut):
         few = _c.number(self.device, 16), _c.number(self.mask, 8)
         made = *self._lists("fetch", "store"), *numbers, *few
         object.__setattr__(self, "_made", made)
+
+    @property
+    def source(self) -> Source:
+        """The job's program."""
+        return Source(self.storage, self.start, self.device, self.limit)
 
     def opened(self) -> "Job":
         """The open job of the program, which grants all: its text says why no job will do."""
@@ -238,10 +265,9 @@ class Explanation:
 
 @dataclass(frozen=True)
 class Program(_LaidOut):
-    """All that is remembered of a program; `needs` makes it, and nothing changes it.
+    """All that is remembered of a program; `take_in` makes it, and nothing changes it.
 
-    `storing` and `keeping` make rows of the table that are no program. The lists become tuples at
-    once, so that they may come from an iterator.
+    The lists become tuples at once, so that they may come from an iterator.
     """
 
     start: int
@@ -268,15 +294,32 @@ class Program(_LaidOut):
 
 
 @dataclass(frozen=True)
-class Permission:
-    """Yes, or no with a refusal, its address or cylinder, and the index of a program in flight.
+class Row:
+    """A row of the table that is no program. While it is in the table, others may write into the
+    area `stores`, a pair of start and length, such as a tape's input: enter it after a yes of
+    `may_write`, and take it out after the last byte is written. And no program that may store over
+    the area `keeps` starts, such as a prefix of the supervisor's own."""
 
-    As a condition it is its yes.
+    stores: Sequence[int] = (0, 0)
+    keeps: Sequence[int] = (0, 0)
+
+    def __post_init__(self) -> None:
+        areas = _c.pairs([self.stores, self.keeps], 32)
+        for name, area in zip(("stores", "keeps"), areas):
+            object.__setattr__(self, name, area)
+
+
+@dataclass(frozen=True)
+class Permission:
+    """Yes, or no with a refusal, its address or cylinder, and the row that is in the way.
+
+    As a condition it is its yes. A `Supervisor` names the unit on which that row's program is.
     """
 
     refusal: str | None = None
     value: int | None = None
-    program: int | None = None
+    row: int | None = None
+    unit: int | None = None
 
     def __bool__(self) -> bool:
         return self.refusal is None
@@ -286,8 +329,9 @@ class Permission:
             return "yes"
         digits = "03" if self.refusal == "no-cylinder" else "06X"
         value = "" if self.value is None else f" {self.value:{digits}}"
-        by = "" if self.program is None else f" by program {self.program}"
-        return f"no: {self.refusal}{value}{by}"
+        row = "" if self.row is None else f" by row {self.row}"
+        unit = "" if self.unit is None else f" by unit {self.unit}"
+        return f"no: {self.refusal}{value}{row}{unit}"
 
 
 # Each call raises NoAnswer if there is no answer, and TypeError if storage has no bytes.
@@ -356,20 +400,42 @@ def find(storage: Storage, device: int = 2314, copy: bool = True) -> list[int]:
     return starts[: count.value]
 
 
-def needs(job: Job) -> Program:
+def take_in(
+    source: Source | Job,
+    own: Pairs,
+    *,
+    hanging: bool = False,
+    interrupting: bool = False,
+    ending_chains: bool = False,
+) -> Program:
     """What the program needs in every job and keeps, to be remembered. Other threads may write
-    storage meanwhile. It raises NoJob if no job will do, and NoAnswer with CHANGED_MEANWHILE if
-    storage changed during the call: ask again then, but not without end."""
-    made, out = _c.Program(), _c.Needed()
+    storage meanwhile. What a job grants doesn't matter.
+
+    `own` is what the program's user owns, pairs of start and length in any order: only bytes of
+    these areas may be kept. It may go on until it is halted if `hanging`, may ask for
+    program-controlled interruptions if `interrupting`, and may end at a No Operation or Recalibrate
+    with chain data if `ending_chains`.
+
+    It raises NoJob if no job will do, Refused if the program keeps or may do what isn't allowed, and
+    NoAnswer with CHANGED_MEANWHILE if storage changed during the call: ask again then, but not
+    without end."""
+    made, out, owned = _c.Program(), _c.Intake(), _c.areas(_c.pairs(own, 32))
+    allowed = (
+        hanging * _c.HANGING + interrupting * _c.INTERRUPTING + ending_chains * _c.ENDING_CHAINS
+    )
     answer, length, room = _c.NO_ROOM, c_size_t(_ROOM), create_string_buffer(0)
-    with _job(job, job.storage) as asked:
+    with _c.bytes_of(source.storage) as held:
+        asked = _c.Source(held, source.start, source.limit, source.device)
         while answer == _c.NO_ROOM:
             room = create_string_buffer(length.value)
-            given = room, c_size_t(len(room)), byref(length), byref(made), byref(out)
-            answer = _c.library.chanv_take_in(byref(asked), *given)
+            filled = room, c_size_t(len(room)), byref(length), byref(made), byref(out)
+            given = byref(asked), byref(owned), c_uint32(allowed), *filled
+            answer = _c.library.chanv_take_in(*given)
     _must_answer(answer, out.verdict.extent)
+    if out.refusal.code:
+        raise Refused(_permission(out.refusal))
     if answer == _c.NO:
-        raise _no_job(job)
+        raise _no_job(source)
     return _program(made, out)  # the lists are in `room`
 
 
@@ -387,24 +453,16 @@ def make_prefix(job: Job, address: int) -> bytes:
     return prefix.raw[: length.value]
 
 
-def keeps_only(program: Program, areas: Pairs) -> Permission:
-    """Whether a program keeps only bytes of these areas, pairs of start and length in any order."""
-    out, made = _c.Refusal(), _c.areas(_c.pairs(areas, 32))
-    given = made.at, c_size_t(made.len), byref(out)
-    answer = _c.library.chanv_check_kept(byref(_made_of(program)), *given)
-    _must_answer(answer, 0)
-    return _permission(out)
-
-
 def may_start(job: Job, program: Program, in_flight: _Table) -> Permission:
-    """Whether a program may start under a job beside those in flight; None in the list is nobody.
+    """Whether a program may start under a job beside what is in flight: programs, and rows that
+    are none; None in the list is nobody.
 
     It is `chanv_check_start`, and a yes has the premises that chanv.h lists. An iterator is no list
     of them, but a TypeError: asked about twice, it would be empty. So is a job over `bytes` or a
     view of `bytes`: the kept bytes are compared with main storage as it is now, not with a copy.
     """
-    out, flying = _c.Refusal(), _programs(in_flight)
-    starting = byref(_made_of(program))
+    out, flying = _c.Refusal(), _rows(in_flight)
+    starting = byref(_filled(program))
     if _c.never_changes(job.storage):
         raise TypeError("may_start asks about main storage as it is now, and bytes never change")
     with _job(job, job.storage) as made:
@@ -419,7 +477,7 @@ def may_write(area: Sequence[int], in_flight: _Table) -> Permission:
 
     It is `chanv_check_write`; the list is that of `may_start`.
     """
-    out, flying = _c.Refusal(), _programs(in_flight)
+    out, flying = _c.Refusal(), _rows(in_flight)
     made = _c.Area(*_c.pairs([area], 32)[0])
     answer = _c.library.chanv_check_write(flying, c_size_t(len(flying)), byref(made), byref(out))
     _must_answer(answer, 0)
@@ -427,29 +485,15 @@ def may_write(area: Sequence[int], in_flight: _Table) -> Permission:
 
 
 def library_version() -> str:
-    """The version of the library, such as 0.8.0, or 0.8.0+not.proved if nothing of it is proved."""
+    """The version of the library, such as 1.0.0, or 1.0.0+not.proved if nothing of it is proved."""
     return _c.version_of(_c.library)
-
-
-def storing(*areas: Sequence[int]) -> Program:
-    """A row of the table for others who write into areas for a while, such as a tape's input.
-
-    Enter it after a yes of `may_write`, and take it out after the last byte is written.
-    """
-    return Program(0, 0, 0, 0, (), (), store=areas, keep=(), kept=b"")
-
-
-def keeping(*areas: Sequence[int]) -> Program:
-    """A row of the table that guards areas of others, such as a prefix of the supervisor's own.
-
-    No program that may store over them starts while the row is in the table.
-    """
-    return Program(0, 0, 0, 0, (), (), store=(), keep=areas, kept=b"")
 
 
 @contextmanager
 def _job(job: Job, storage: Storage) -> Iterator[_c.Job]:
     """The job for C over its storage, or over a copy of it, as long as the block lasts."""
+    if not isinstance(job, Job):
+        raise TypeError(f"this asks about a Job, not about a {type(job).__name__}")
     with _c.bytes_of(storage) as held:
         yield _c.Job(held, *getattr(job, "_made"))
 
@@ -499,10 +543,10 @@ def _permission(out: _c.Refusal) -> Permission:
         return Permission()
     word = _word("refusal", out.code)
     value = out.value if word in _WITH_VALUE else None
-    return Permission(word, value, None if out.program == _c.NOBODY else out.program)
+    return Permission(word, value, None if out.row == _c.NOBODY else out.row)
 
 
-def _program(made: _c.Program, out: _c.Needed) -> Program:
+def _program(made: _c.Program, out: _c.Intake) -> Program:
     """What the library wrote about a program, in values of Python."""
     rows = made.rows
     return Program(
@@ -522,17 +566,18 @@ def _program(made: _c.Program, out: _c.Needed) -> Program:
     )
 
 
-def _no_job(job: Job) -> Error:
+def _no_job(source: Source | Job) -> Error:
     """Why no job will do. The verdict and its explanation are about one copy of storage, which
     nothing writes; if some job will do for the copy, storage has changed."""
-    opened = replace(job.opened(), storage=_c.quiet(job.storage))
+    quiet, device, limit = _c.quiet(source.storage), source.device, source.limit
+    opened = Job(quiet, source.start, [_ALL_CYLINDERS], device=device, limit=limit).opened()
     verdict = verify(opened)
     if verdict:
         return NoAnswer(Answer.CHANGED_MEANWHILE)
     return NoJob(verdict, text(opened))
 
 
-def _made_of(program: Program) -> _c.Program:
+def _filled(program: Program) -> _c.Program:
     """The program for C; anything else, such as a key of a table, is a TypeError."""
     if not isinstance(program, Program):
         raise TypeError(f"a Program was expected, not {type(program).__name__}")
@@ -540,42 +585,52 @@ def _made_of(program: Program) -> _c.Program:
     return made
 
 
+def _row(it: Program | Row | None) -> _c.Row:
+    """The row for C."""
+    if it is None:
+        return _c.Row()
+    if isinstance(it, Row):
+        return _c.Row(_c.Program(), _c.Area(*it.stores), _c.Area(*it.keeps))
+    return _c.Row(_filled(it))
+
+
 class _Flying:
-    """Programs in flight by the units on which they are, in rows that C reads where they are. A row
-    of zeros is nobody's."""
+    """What is in flight by the units on which it is, in rows that C reads where they are. A row of
+    zeros is nobody's. A row without a unit stays."""
 
     def __init__(self) -> None:
-        self.rows = (_c.Program * 8)()
+        self.rows = (_c.Row * 8)()
         self._free = [*reversed(range(8))]
-        self._by_unit: dict[int | None, tuple[int, Program]] = {}
+        self._by_unit: dict[int, tuple[int, Program | Row]] = {}
 
     def __contains__(self, unit: int) -> bool:
         return unit in self._by_unit
 
-    def enter(self, unit: int | None, program: Program) -> None:
-        made = _made_of(program)
+    def enter(self, unit: int | None, it: Program | Row) -> None:
+        made = _row(it)
         if not self._free:
             count = len(self.rows)
-            self.rows = (_c.Program * (2 * count))(*self.rows)
+            self.rows = (_c.Row * (2 * count))(*self.rows)
             self._free = [*reversed(range(count, 2 * count))]
         row = self._free.pop()
         self.rows[row] = made
-        self._by_unit[unit] = row, program  # the row refers to the program's lists
+        if unit is not None:
+            self._by_unit[unit] = row, it  # the row refers to a program's lists
 
-    def leave(self, unit: int | None) -> None:
+    def leave(self, unit: int) -> None:
         row, _ = self._by_unit.pop(unit)
-        self.rows[row] = _c.Program()
+        self.rows[row] = _c.Row()
         self._free.append(row)
 
     def unit_at(self, row: int) -> int | None:
-        return next(unit for unit, (it, _) in self._by_unit.items() if it == row)
+        return next((unit for unit, (it, _) in self._by_unit.items() if it == row), None)
 
 
-def _programs(programs: _Table) -> Any:
-    """The programs in a row, with zeros for None."""
-    if isinstance(programs, _Flying):
-        return programs.rows
-    if isinstance(programs, Iterator):
-        raise TypeError("the programs in flight are an iterator; hand in a list or another table")
-    made = [_c.Program() if it is None else _made_of(it) for it in programs]
-    return (_c.Program * len(made))(*made)
+def _rows(rows: _Table) -> Any:
+    """The rows of a table, with zeros for None."""
+    if isinstance(rows, _Flying):
+        return rows.rows
+    if isinstance(rows, Iterator):
+        raise TypeError("what is in flight is an iterator; hand in a list or another table")
+    made = [_row(it) for it in rows]
+    return (_c.Row * len(made))(*made)

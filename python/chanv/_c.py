@@ -11,13 +11,16 @@ from itertools import chain
 from pathlib import Path
 from typing import Any
 
-VERSION = "0.8.0"
-SONAME = "libchanv.so.0.8"
+VERSION = "1.0.0"
+SONAME = "libchanv.so.1"
 
 # the codes that this package tells apart
 YES, NO, NO_ROOM = 0, 1, 11
 
-# the index of no program in a table
+# what a program may be allowed
+HANGING, INTERRUPTING, ENDING_CHAINS = 1, 2, 4
+
+# the index of no row of a table
 NOBODY = c_size_t(-1).value
 
 # the bit of chanv_version that says that nothing of the library is proved
@@ -52,6 +55,15 @@ class Extents(Structure):
 
 class Areas(Structure):
     _fields_ = [("at", POINTER(Area)), ("len", c_size_t)]
+
+
+class Source(Structure):
+    _fields_ = [
+        ("storage", Bytes),
+        ("start", c_uint32),
+        ("limit", c_uint32),
+        ("device", c_uint16),
+    ]
 
 
 class Job(Structure):
@@ -112,27 +124,6 @@ class Explanation(Structure):
     ]
 
 
-class Needed(Structure):
-    _fields_ = [
-        ("verdict", Verdict),
-        ("extent_count", c_size_t),
-        ("fetch_count", c_size_t),
-        ("store_count", c_size_t),
-        ("keep_count", c_size_t),
-        ("kept_len", c_size_t),
-        ("storage_len", c_uint32),
-        ("hangs_at", c_uint32),
-        ("interrupts_at", c_uint32),
-        ("ends_chaining_at", c_uint32),
-        ("mask", c_uint8),
-        ("may_hang", c_uint8),
-        ("interrupts", c_uint8),
-        ("ends_chaining", c_uint8),
-        ("hangs_entered", c_uint8),
-        ("unused", c_uint8 * 3),
-    ]
-
-
 class Rows(Structure):
     _fields_ = [
         ("extents", Extents),
@@ -153,12 +144,30 @@ class Program(Structure):
     ]
 
 
+class Row(Structure):
+    _fields_ = [("program", Program), ("stores", Area), ("keeps", Area)]
+
+
 class Refusal(Structure):
     _fields_ = [
         ("extent", c_size_t),
-        ("program", c_size_t),
+        ("row", c_size_t),
         ("code", c_uint32),
         ("value", c_uint32),
+    ]
+
+
+class Intake(Structure):
+    _fields_ = [
+        ("verdict", Verdict),
+        ("refusal", Refusal),
+        ("hangs_at", c_uint32),
+        ("interrupts_at", c_uint32),
+        ("ends_chaining_at", c_uint32),
+        ("may_hang", c_uint8),
+        ("interrupts", c_uint8),
+        ("ends_chaining", c_uint8),
+        ("hangs_entered", c_uint8),
     ]
 
 
@@ -254,9 +263,11 @@ def held_bytes(made: Bytes) -> bytes:
 
 
 def _rooms() -> Iterator[Path]:
-    """Where a library of this package may be: `lib` of the prefix in which `make install` or pip
-    put the package, or `out` of the checkout that it is a part of."""
+    """Where a library of this package may be: in the package, if it came as a wheel with a library;
+    `lib` of the prefix in which `make install` or pip put the package; or `out` of the checkout that
+    it is a part of."""
     here = Path(__file__).resolve()
+    yield here.parent
     is_installed = here.parts[-5:-1] == ("share", "chanv", "python", "chanv")
     is_of_pip = here.parts[-5:-4] == ("lib",) and here.parts[-3] in PACKAGES_OF_PIP
     is_here = here.parts[-3:-1] == ("python", "chanv")
@@ -270,7 +281,8 @@ def _found() -> str:
     """CHANV_LIBRARY, or else the library of this package, or else its name, for the system."""
     if "CHANV_LIBRARY" in os.environ:
         return os.environ["CHANV_LIBRARY"]
-    files = (room / name for room in _rooms() for name in (SONAME, f"{SONAME}.0"))
+    names = SONAME, f"libchanv.so.{VERSION}"
+    files = (room / name for room in _rooms() for name in names)
     return next((str(file) for file in files if file.is_file()), SONAME)
 
 
@@ -295,7 +307,9 @@ def _load() -> CDLL:
         version = version_of(library)
     except AttributeError as error:
         raise WrongLibrary(f"{path} isn't chanv's library: {error}") from error
-    if version.split(".")[:2] != VERSION.split(".")[:2]:
+    first, second = version.split(".")[:2]
+    wanted, least = VERSION.split(".")[:2]
+    if first != wanted or int(second) < int(least):
         raise WrongLibrary(f"{path} is version {version}, and this package needs {VERSION}")
     return library
 

@@ -1,27 +1,47 @@
 """A supervisor that has several channel programs in flight on one main storage."""
 
-from collections.abc import Callable, Iterator, Sequence
+from collections.abc import Callable, Sequence
 from dataclasses import replace
-from threading import Lock
+from threading import Lock, get_ident
 from weakref import WeakValueDictionary
 
-from . import Answer, Error, Job, NoAnswer, Pairs, Permission, Program, _Flying
-from . import keeping, keeps_only, may_start, may_write, needs, storing
+from . import Answer, Job, NoAnswer, Pairs, Permission, Program, Refused, Row, Source, _Flying
+from . import _c, may_start, may_write, take_in
 
 __all__ = ["Refused", "Supervisor"]
 
 # how often a program is taken in that changes each time
 TRIES = 8
-# what is refused of a program that is safe
-WORDS = "may-hang", "interrupts", "ends-chaining"
 
 
-class Refused(Error):
-    """The supervisor doesn't take a program in: its refusal, and where."""
+def _common(some: Pairs, others: Pairs) -> list[tuple[int, int]]:
+    """The areas that two lists of areas have in common, of each area with each."""
+    bounds = [
+        (max(start, first), min(start + length, first + size))
+        for start, length in some
+        for first, size in others
+    ]
+    return [(start, end - start) for start, end in bounds if start < end]
 
-    def __init__(self, permission: Permission) -> None:
-        super().__init__(permission)
-        self.permission = permission
+
+class _Lock:
+    """A lock that raises RuntimeError where its own thread would wait for itself."""
+
+    def __init__(self) -> None:
+        self._lock, self._holder = Lock(), 0
+
+    def __enter__(self) -> None:
+        if self._holder == get_ident():
+            raise RuntimeError("what a supervisor calls must not call it")
+        self._lock.acquire()
+        self._holder = get_ident()
+
+    def __exit__(self, *_: object) -> None:
+        self._holder = 0
+        self._lock.release()
+
+    def locked(self) -> bool:
+        return self._lock.locked()
 
 
 class Supervisor:
@@ -36,13 +56,14 @@ class Supervisor:
     >>> print(supervisor.start(0x190, job, program))
     yes
     >>> print(supervisor.write((0x800, 8), lambda: storage.__setitem__(0x800, 0)))
-    no: writes-over-kept 000800 by program 400
+    no: writes-over-kept 000800 by unit 400
     >>> supervisor.leave(0x190)
 
     `start_io(unit, job)` moves the arm of the unit into the job's extents, puts the job's mask in
-    force by a prefix, starts the program at the job's start, and returns whether it is in flight
-    now. A unit is an arm, by its number, and of the job's type. If `start_io` raises, the program
-    counts as in flight. What the supervisor calls runs under its lock and doesn't call it.
+    force by a prefix, starts the program at the job's start, and returns True if it is in flight
+    now, otherwise False. A unit is an arm, by its number, and of the job's type. If `start_io`
+    raises, or returns anything else, such as a condition code, the program counts as in flight. What
+    the supervisor calls runs under its lock; if it calls a method of it, that raises RuntimeError.
 
     `own` is the storage of the users, as pairs of start and length: not low storage, where the
     machine stores PSWs, the CSW and the timer and logs out, nor the system's own. Only you know
@@ -58,11 +79,14 @@ class Supervisor:
       emulators go on, to a CCW that chanv hasn't seen;
     - that keeps a byte of `guarded`, areas of your own such as prefixes. No program starts that may
       store over them.
+
+    A refusal has the word of the library, or `unit-in-use`, or `not-accepted` if `start_io` returned
+    False.
     """
 
     def __init__(
         self,
-        start_io: Callable[[int, Job], object],
+        start_io: Callable[[int, Job], bool],
         *,
         own: Pairs,
         guarded: Pairs = (),
@@ -70,29 +94,38 @@ class Supervisor:
         interrupting: bool = False,
         ending_chains: bool = False,
     ) -> None:
-        self._start_io, self._own, self._guarded = start_io, own, [*guarded]
-        self._takes = hanging, interrupting, ending_chains
-        self._lock = Lock()
+        self._start_io = start_io
+        self._own, self._guarded = _c.pairs(own, 32), _c.pairs(guarded, 32)
+        self._allowed = {
+            "hanging": hanging,
+            "interrupting": interrupting,
+            "ending_chains": ending_chains,
+        }
+        self._lock = _Lock()
         self._taken_in: WeakValueDictionary[int, Program] = WeakValueDictionary()  # by their ids
         # by unit, and what is guarded
         self._table = _Flying()
-        self._table.enter(None, keeping(*self._guarded))
+        for area in self._guarded:
+            self._table.enter(None, Row(keeps=area))
 
-    def take_in(self, job: Job, own: Pairs | None = None) -> Program:
-        """Takes the job's program in, over storage that anything may write; `own` is the storage of
-        its user alone, and if left out that of all users. It raises Refused, or like `needs`;
+    def take_in(self, source: Source | Job, own: Pairs | None = None) -> Program:
+        """Takes a program in, over storage that anything may write; `own` is the part of the users'
+        storage that is its user's, and if left out all of it. It raises like `chanv.take_in`;
         CHANGED_MEANWHILE only after some tries."""
-        program = _settled(job)
-        for permission in self._refusals(program, self._own if own is None else own):
-            if not permission:
-                raise Refused(permission)
+        owned = self._own if own is None else _common(_c.pairs(own, 32), self._own)
+        program = self._settled(source, owned)
+        for area in self._guarded:
+            spared = may_write(area, [program])
+            if not spared:
+                raise Refused(Permission("keeps-outside", spared.value))
         self._taken_in[id(program)] = program
         return program
 
     def start(self, unit: int, job: Job, program: Program) -> Permission:
         """Starts a program that `take_in` returned, if its unit is free and it may start. It is in
         flight until it leaves. A refusal names the unit of the program in the way. For any other
-        program, also an equal one, it raises ValueError."""
+        program, also an equal one, it raises ValueError. If `start_io` doesn't say whether the
+        program is in flight, it raises TypeError."""
         if self._taken_in.get(id(program)) is not program:
             raise ValueError("this supervisor didn't take the program in")
         with self._lock:
@@ -101,7 +134,10 @@ class Supervisor:
             permission = may_start(job, program, self._table)
             if permission:
                 self._table.enter(unit, program)
-                if not self._start_io(unit, job):
+                accepted: object = self._start_io(unit, job)
+                if not isinstance(accepted, bool):
+                    raise TypeError(f"start_io must return True or False, not {accepted!r}")
+                if not accepted:
                     self._table.leave(unit)
                     return Permission("not-accepted")
             return self._by_unit(permission)
@@ -121,7 +157,7 @@ class Supervisor:
                 return Permission("unit-in-use")
             permission = may_write(area, self._table)
             if permission:
-                self._table.enter(unit, storing(area))
+                self._table.enter(unit, Row(stores=area))
             return self._by_unit(permission)
 
     def leave(self, unit: int) -> None:
@@ -130,27 +166,17 @@ class Supervisor:
         with self._lock:
             self._table.leave(unit)
 
-    def _refusals(self, program: Program, own: Pairs) -> Iterator[Permission]:
-        yield keeps_only(program, own)
-        for area in self._guarded:
-            spared = may_write(area, [program])
-            yield spared or Permission("keeps-outside", spared.value)
-        places = program.hangs_at, program.interrupts_at, program.ends_chaining_at
-        for word, at, is_taken in zip(WORDS, places, self._takes):
-            yield Permission() if is_taken or at is None else Permission(word, at)
+    def _settled(self, source: Source | Job, own: Pairs) -> Program:
+        """The program, taken in again if storage changed too much, but not without end."""
+        for _ in range(TRIES - 1):
+            try:
+                return take_in(source, own, **self._allowed)
+            except NoAnswer as why:
+                if why.code != Answer.CHANGED_MEANWHILE:
+                    raise
+        return take_in(source, own, **self._allowed)
 
     def _by_unit(self, permission: Permission) -> Permission:
-        if permission.program is None:
+        if permission.row is None:
             return permission
-        return replace(permission, program=self._table.unit_at(permission.program))
-
-
-def _settled(job: Job) -> Program:
-    """What the program needs, asked again if storage changed too much, but not without end."""
-    for _ in range(TRIES - 1):
-        try:
-            return needs(job)
-        except NoAnswer as why:
-            if why.code != Answer.CHANGED_MEANWHILE:
-                raise
-    return needs(job)
+        return replace(permission, row=None, unit=self._table.unit_at(permission.row))

@@ -7,6 +7,8 @@ use kit::alloc::Global;
 use kit::c::List;
 use std::sync::Arc;
 
+const NO_AREA: Area = Area { start: 0, len: 0 };
+
 /// What a caller allows a program that it takes in. By default it allows nothing.
 #[derive(Clone, Copy, PartialEq, Eq, Debug, Default)]
 pub struct Allowed {
@@ -64,10 +66,15 @@ struct Taken {
     device: u16,
 }
 
-/// A row of the table of what is in flight. Only a yes makes it.
+/// A row of the table of what is in flight: a program, or an area that is written or must stay. Only
+/// a yes makes it.
 #[must_use = "put the row into the table before the start or the first byte"]
 #[derive(Debug)]
-pub struct Row(Program);
+pub struct Row {
+    program: Program,
+    stores: Area,
+    keeps: Area,
+}
 
 /// Takes a program in, whose user owns these areas. They may overlap, adjoin, lie in any order and
 /// reach past storage; no areas means that the user owns nothing.
@@ -88,7 +95,7 @@ pub fn take_in(source: &Source, own: &[Area], allowed: Allowed) -> Result<Progra
     };
     let (start, storage_len) = (source.start, source.storage.len() as u32);
     let program = Program(Arc::new(Taken { needs, kept, storage_len, start, device }));
-    let outside = chan_needs::kept_outside(Global, &program.remembered(), own);
+    let outside = chan_needs::kept_outside(Global, &program.needs().keep, own);
     if let Some(byte) = outside.map_err(no_memory)? {
         return Err(Refusal::KeepsOutside(byte));
     }
@@ -106,18 +113,18 @@ pub fn take_in(source: &Source, own: &[Area], allowed: Allowed) -> Result<Progra
 pub fn may_start(program: &Program, job: &Job, in_flight: &[Row]) -> Result<Row, Refusal> {
     let mut rows = Vec::new();
     rows.try_reserve_exact(in_flight.len()).map_err(no_memory)?;
-    rows.extend(in_flight.iter().map(|row| row.0.remembered()));
+    rows.extend(in_flight.iter().map(Row::entry));
     match job.ask(|job| Ok(check_start(Global, job, &program.remembered(), &rows)?))? {
-        Start::Yes => Ok(Row(program.clone())),
+        Start::Yes => Ok(Row { program: program.clone(), stores: NO_AREA, keeps: NO_AREA }),
         Start::No(refusal) => Err(Refusal::Start(refusal)),
     }
 }
 
 /// Whether others, such as the processor, may write into an area now.
 pub fn may_write(in_flight: &[Row], area: Area) -> Result<(), Refusal> {
-    for (row, Row(program)) in in_flight.iter().enumerate() {
-        if let Some((_, byte)) = chan_needs::check_write(&[program.remembered()], area) {
-            return Err(Refusal::Kept(row, byte));
+    for (number, row) in in_flight.iter().enumerate() {
+        if let Some(byte) = row.entry().kept_in(area) {
+            return Err(Refusal::Kept(number, byte));
         }
     }
     Ok(())
@@ -152,23 +159,30 @@ impl Row {
     /// byte of the area: as long as the row is in the table, no program that does may start.
     pub fn writing(in_flight: &[Row], area: Area) -> Result<Row, Refusal> {
         may_write(in_flight, area)?;
-        Ok(Row::of(Needs { store: vec![area], ..Needs::default() }))
+        Ok(Row { program: Program(Arc::default()), stores: area, keeps: NO_AREA })
     }
 
     /// The row of bytes that must stay, such as the prefixes, if nothing in flight may store over
     /// them: as long as the row is in the table, no program that may store over them may start.
     pub fn keeping(in_flight: &[Row], area: Area) -> Result<Row, Refusal> {
-        let row = Row::of(Needs { keep: vec![area], ..Needs::default() });
-        let needs = row.0.remembered().needs;
-        for (at, Row(program)) in in_flight.iter().enumerate() {
-            if let Some(conflict) = needs.conflict(&program.remembered().needs) {
-                return Err(Refusal::Start(StartRefusal::Conflict(at, conflict)));
+        let keep = Program(Arc::new(Taken {
+            needs: Needs { keep: vec![area], ..Needs::default() },
+            ..Taken::default()
+        }));
+        let needs = keep.remembered().needs;
+        for (number, row) in in_flight.iter().enumerate() {
+            if let Some(conflict) = needs.conflict(&row.entry()) {
+                return Err(Refusal::Start(StartRefusal::Conflict(number, conflict)));
             }
         }
-        Ok(row)
+        Ok(Row { program: Program(Arc::default()), stores: NO_AREA, keeps: area })
     }
 
-    fn of(needs: Needs) -> Row {
-        Row(Program(Arc::new(Taken { needs, ..Taken::default() })))
+    fn entry(&self) -> chan_needs::Row<'_> {
+        chan_needs::Row {
+            program: self.program.remembered(),
+            stores: self.stores,
+            keeps: self.keeps,
+        }
     }
 }

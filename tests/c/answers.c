@@ -43,10 +43,10 @@ static void take_in_and_start(const char *name, const struct chanv_job *job)
     struct taken program, moved;
     memset(&program, 0xFF, sizeof program);
     program.memory = memory;
-    uint32_t answer = take_in(&program, job);
+    enum chanv_answer answer = take_in(&program, job);
     moved = program;
     memset(&program, 0xFF, sizeof program);
-    printf("%s: %u, %s\n", name, answer, start(&moved, 0, job) ? "started" : "held back");
+    printf("%s: %s, %s\n", name, chanv_answer_word(answer), start(&moved, 0, job) ? "started" : "held back");
     leave(0);
 }
 
@@ -62,11 +62,11 @@ static void try_other_device(uint16_t device, uint16_t other)
     struct chanv_job job = job_of(READ, 2);
     struct taken program = {.memory = memory};
     job.device = device;
-    uint32_t answer = take_in(&program, &job);
+    enum chanv_answer answer = take_in(&program, &job);
     int same = start(&program, 0, &job);
     leave(0);
     job.device = other;
-    printf("for a %u: %u, %s, on a %u %s\n", device, answer, same ? "started" : "held back", other,
+    printf("for a %u: %s, %s, on a %u %s\n", device, chanv_answer_word(answer), same ? "started" : "held back", other,
            start(&program, 0, &job) ? "started" : "held back");
     leave(0);
 }
@@ -80,9 +80,9 @@ static void try_refused(void)
     own.at = &all;
     storage[START + 12] |= 0x08;
     take_in_and_start("an interruption", &job);
-    takes_interrupting = 1;
+    allowed |= CHANV_ALLOW_INTERRUPTING;
     take_in_and_start("an interruption", &job);
-    takes_interrupting = 0;
+    allowed &= ~(uint32_t)CHANV_ALLOW_INTERRUPTING;
 }
 
 /* The prefix of a program under the mask 80, from cylinder 10 on: its bytes, and the verdict on both
@@ -112,9 +112,10 @@ static void try_hanging(void)
     struct chanv_job job = job_of(READ, 3);
     memcpy(storage + START, loop, sizeof loop);
     memcpy(storage + START + 16, loop + 8, 4);
-    for (takes_hanging = 0; takes_hanging < 2; takes_hanging++)
-        take_in_and_start("a loop", &job);
-    takes_hanging = 0;
+    take_in_and_start("a loop", &job);
+    allowed |= CHANV_ALLOW_HANGING;
+    take_in_and_start("a loop", &job);
+    allowed &= ~(uint32_t)CHANV_ALLOW_HANGING;
 }
 
 /* With these flags of its first CCW on. */
@@ -123,13 +124,13 @@ static void try_emulated(const char *name, uint8_t code, uint32_t count, uint8_t
     struct chanv_job job = job_of(code, count);
     storage[START + 4] |= flags;
     memset(&asked, 0xFF, sizeof asked);
-    uint32_t answer = ask(&asked, &job);
+    enum chanv_answer answer = ask(&asked, &job);
     const char *there = may_begin(&asked, &job) ? "there" : "not there";
     /* of a shorter storage nothing past its end is read */
     job.storage = (struct chanv_bytes){malloc(8), 8};
     int cut = may_begin(&asked, &job);
     free((void *)job.storage.at);
-    printf("emulated %s: %u, %s%s\n", name, answer, there, cut ? ", even if it is cut" : "");
+    printf("emulated %s: %s, %s%s\n", name, chanv_answer_word(answer), there, cut ? ", even if it is cut" : "");
 }
 
 /* Writes that begin or end far from the program, and one past the end of all addresses. */
@@ -137,7 +138,8 @@ static void try_writes(void)
 {
     struct chanv_job job = job_of(READ, 2);
     struct taken program = {.memory = memory};
-    take_in(&program, &job);
+    if (take_in(&program, &job) != CHANV_OK)
+        abort();
     start(&program, 0, &job);
     const struct chanv_area writes[] = {{0, START}, {0, START + 1},          {START + 15, 1},
                                         {START + 16, 8}, {8, UINT32_MAX}, {UINT32_MAX, UINT32_MAX}};
@@ -150,7 +152,7 @@ static void try_writes(void)
 int main(void)
 {
     own = (struct chanv_areas){&all, 1};
-    guard_prefixes(&prefixes);
+    guard_prefixes(prefixes);
     try_program("2 rows", READ, 2);
     try_program("127 rows", READ, 127);
     try_program("128 rows", READ, 128);

@@ -67,15 +67,41 @@ static inline struct chanv_job generous(void)
     return job;
 }
 
+/* The program of a job, as its user hands it in. */
+static inline struct chanv_source source_of(const struct chanv_job *job)
+{
+    return (struct chanv_source){
+        .storage = job->storage, .start = job->start, .limit = job->limit, .device = job->device};
+}
+
+enum { ALLOW_ALL = CHANV_ALLOW_HANGING | CHANV_ALLOW_INTERRUPTING | CHANV_ALLOW_ENDING_CHAINS };
+
+/* Takes the program of a job in, for a user who owns all storage and may do everything. */
+static inline enum chanv_answer take_in_freely(const struct chanv_job *job, void *memory,
+                                               size_t room, size_t *len,
+                                               struct chanv_program *program,
+                                               struct chanv_intake *out)
+{
+    static const struct chanv_area whole = CHANV_ALL_STORAGE;
+    struct chanv_source source = source_of(job);
+    struct chanv_areas own = {&whole, 1};
+    return chanv_take_in(&source, &own, ALLOW_ALL, memory, room, len, program, out);
+}
+
+/* A row of the table with a program in flight. */
+static inline struct chanv_row row_of(const struct chanv_program *program)
+{
+    return (struct chanv_row){.program = *program};
+}
+
 /* The word for each number, and for the first numbers without a word. */
 static inline void print_words(void)
 {
     for (uint32_t reason = 0; reason < 18; reason++)
         printf("reason %" PRIu32 ": %s\n", reason, chanv_reason_word(reason));
-    for (uint32_t number = 0; number < 14; number++)
-        printf("number %" PRIu32 ": %s%s, %s, %s\n", number, chanv_answer_word(number),
-               chanv_is_fault(number) ? " (a fault)" : "", chanv_refusal_word(number),
-               chanv_entered_word(number));
+    for (uint32_t number = 0; number < 17; number++)
+        printf("number %" PRIu32 ": %s, %s, %s\n", number, chanv_answer_word(number),
+               chanv_refusal_word(number), chanv_entered_word(number));
 }
 
 /* A job with each fault that it can have at once, of which each step takes one away. It gives the
@@ -147,8 +173,8 @@ static inline void print_refusal(uint32_t answer, const struct chanv_refusal *re
     printf("%" PRIu32, answer);
     if (refusal->code != 0)
         printf(" %s %" PRIX32, chanv_refusal_word(refusal->code), refusal->value);
-    if (refusal->program != CHANV_NOBODY)
-        printf(" of %zu", refusal->program);
+    if (refusal->row != CHANV_NOBODY)
+        printf(" of %zu", refusal->row);
     if (refusal->extent != 0)
         printf(", wrong extent %zu", refusal->extent);
 }

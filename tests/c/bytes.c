@@ -10,8 +10,8 @@ struct gap {
 
 #define PAST(type, field) (offsetof(struct type, field) + sizeof((struct type *)NULL)->field)
 
-static const struct gap of_needed[] = {
-    {PAST(chanv_needed, hangs_entered), sizeof(struct chanv_needed)}};
+static const struct gap of_intake[] = {
+    {PAST(chanv_intake, hangs_entered), sizeof(struct chanv_intake)}};
 static const struct gap of_program[] = {{PAST(chanv_program, device), sizeof(struct chanv_program)},
                                         {PAST(chanv_rows, mask), sizeof(struct chanv_rows)}};
 
@@ -44,13 +44,13 @@ static void take_in(const char *name, const struct chanv_job *job, size_t room, 
 {
     static uint8_t memory[512];
     struct chanv_program program;
-    struct chanv_needed needed;
+    struct chanv_intake intake;
     size_t len;
-    memset(&program, byte, sizeof program), memset(&needed, byte, sizeof needed);
+    memset(&program, byte, sizeof program), memset(&intake, byte, sizeof intake);
     paint_stack(byte);
-    enum chanv_answer answer = chanv_take_in(job, memory, room, &len, &program, &needed);
+    enum chanv_answer answer = take_in_freely(job, memory, room, &len, &program, &intake);
     printf("%s: take in %u\n", name, answer);
-    LOOK(name, &needed, of_needed);
+    LOOK(name, &intake, of_intake);
     LOOK(name, &program, of_program);
 }
 

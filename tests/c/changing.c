@@ -198,9 +198,9 @@ static int are_same_rows(const struct chanv_rows *one, const struct chanv_rows *
 
 static enum chanv_answer take_in(uint8_t *into, struct chanv_program *program)
 {
-    struct chanv_needed needed;
+    struct chanv_intake intake;
     size_t len;
-    return chanv_take_in(&job, into, ROOM, &len, program, &needed);
+    return take_in_freely(&job, into, ROOM, &len, program, &intake);
 }
 
 static long taken, changed, started, wrong_starts, wrong_needs;
@@ -298,17 +298,17 @@ static int try_growths(void)
 /* Whether the call left what its answer says, if A takes just so much memory: the program of A;
  * how much more B takes; or nothing at all. */
 static int is_left(enum chanv_answer answer, size_t just, size_t len,
-                   const struct chanv_program *program, const struct chanv_needed *needed)
+                   const struct chanv_program *program, const struct chanv_intake *intake)
 {
     static const struct chanv_program none;
-    static const struct chanv_needed nothing;
+    static const struct chanv_intake nothing = {.refusal.row = CHANV_NOBODY};
     if (answer == CHANV_OK)
-        return len == just && program->kept.len == 8 && needed->kept_len == 8;
+        return len == just && program->kept.len == 8;
     int is_empty = is_same(program, &none, sizeof none) && is_untouched(memory, memory + just);
     if (answer == CHANV_NO_ROOM)
-        return is_empty && len > just && needed->extent_count == 1;
+        return is_empty && len > just;
     return answer == CHANV_CHANGED_MEANWHILE && is_empty && len == 0
-           && is_same(needed, &nothing, sizeof nothing);
+           && is_same(intake, &nothing, sizeof nothing);
 }
 
 /* Takes A in with just enough memory, while B comes at each allocation in turn. */
@@ -318,18 +318,18 @@ static int try_room(void)
     size_t just, len;
     long counts[CHANV_CHANGED_MEANWHILE + 1] = {0};
     struct chanv_program program;
-    struct chanv_needed needed;
+    struct chanv_intake intake;
     put_word(a), grown = 0;
-    if (chanv_take_in(&job, NULL, 0, &just, &program, &needed) != CHANV_NO_ROOM)
+    if (take_in_freely(&job, NULL, 0, &just, &program, &intake) != CHANV_NO_ROOM)
         exit(2);
     /* at last B doesn't come */
     for (long growths = grown, growth = 1; growth <= growths + 1; growth++) {
         put_word(a), grown = 0, stored_at = growth;
         memset(memory, UNTOUCHED, just), memset(&program, UNTOUCHED, sizeof program);
-        memset(&needed, UNTOUCHED, sizeof needed), len = UNTOUCHED;
-        enum chanv_answer answer = chanv_take_in(&job, memory, just, &len, &program, &needed);
+        memset(&intake, UNTOUCHED, sizeof intake), len = UNTOUCHED;
+        enum chanv_answer answer = take_in_freely(&job, memory, just, &len, &program, &intake);
         stored_at = 0;
-        wrong += !is_left(answer, just, len, &program, &needed);
+        wrong += !is_left(answer, just, len, &program, &intake);
         counts[answer <= CHANV_CHANGED_MEANWHILE ? answer : CHANV_MEMORY]++;
     }
     printf("room: %ld taken in, %ld without room, %ld changed, %d wrong\n", counts[CHANV_OK],
@@ -342,7 +342,7 @@ static int try_room(void)
 static void ask_beside(const struct chanv_program *program, struct chanv_area area, int rounds,
                        long *asked, long *granted)
 {
-    const struct chanv_program in_flight = {.rows = {.store = {&area, 1}}};
+    const struct chanv_row in_flight = {.stores = area};
     struct chanv_refusal refusal;
     pthread_t channel;
     toggles = 1;

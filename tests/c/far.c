@@ -49,9 +49,21 @@ static void start(const char *name, struct chanv_program program, const struct c
     program.rows.keep = (struct chanv_areas){keep, count};
     program.kept = (struct chanv_bytes){kept, kept_len};
     refused(name, chanv_check_start(&job, NULL, 0, &program, &no), &no);
-    refused("written there", chanv_check_write(&program, 1, &at_end[0], &no), &no);
-    refused("kept there", chanv_check_kept(&program, at_end, 1, &no), &no);
-    refused("kept elsewhere", chanv_check_kept(&program, past, 2, &no), &no);
+    struct chanv_row row = row_of(&program);
+    refused("written there", chanv_check_write(&row, 1, &at_end[0], &no), &no);
+}
+
+/* The search loop, if the far areas are among those that its user owns. */
+static void take_in(const char *name, const struct chanv_area *own, size_t count)
+{
+    static uint8_t memory[256];
+    struct chanv_source source = source_of(&good);
+    struct chanv_areas areas = {own, count};
+    struct chanv_program program;
+    struct chanv_intake intake;
+    unsigned answer = chanv_take_in(&source, &areas, CHANV_ALLOW_NOTHING, memory, sizeof memory,
+                                    NULL, &program, &intake);
+    refused(name, answer, &intake.refusal);
 }
 
 int main(void)
@@ -62,7 +74,10 @@ int main(void)
     struct chanv_job job = good;
     fill(search_loop);
     verify_far();
-    if (chanv_take_in(&good, memory, sizeof memory, NULL, &program, NULL) != CHANV_OK)
+    take_in("owned at the end", at_end, 1);
+    take_in("owned past 2^32", past, 2);
+    take_in("owned from 900 and 10 on", most, 3);
+    if (take_in_freely(&good, memory, sizeof memory, NULL, &program, NULL) != CHANV_OK)
         return 1;
     memcpy(kept, storage + START, 8);
     start("keeps to 2^32 and past it", program, at_end, 1, 16);
@@ -74,6 +89,6 @@ int main(void)
     refused("lent as it fetches", chanv_check_start(&job, NULL, 0, &program, &no), &no);
     job.start = 0xFFFFFFF8;
     printf("taken in at FFFFFFF8: %u\n",
-           chanv_take_in(&job, memory, sizeof memory, NULL, &program, NULL));
+           take_in_freely(&job, memory, sizeof memory, NULL, &program, NULL));
     return 0;
 }

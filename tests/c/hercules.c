@@ -109,7 +109,7 @@ static void change(U32 start)
         storage[area.start + below(area.len)] ^= (BYTE)(1 << below(8));
     } else if (how == 4) {
         stored = (struct chanv_area){below(2) ? start : below(STORAGE), below(3) * 64};
-        chanv_row_storing(&stored, &flight.programs[CHANVASK_LOWS]);
+        flight.table[CHANVASK_LOWS].stores = stored;
     }
 }
 
@@ -117,15 +117,14 @@ static void change(U32 start)
  * do for it. */
 static int is_stored_over(U32 start)
 {
-    static const struct chanv_extent disk = CHANV_ALL_CYLINDERS;
     static const struct chanv_area all = CHANV_ALL_STORAGE;
     static BYTE memory[1 << 20];
     struct chanv_program program;
-    struct chanv_needed needed;
-    const struct chanv_job job = {{storage, STORAGE}, {&disk, 1}, {&all, 1}, {&all, 1}, start,
-                                  CHANV_USUAL_LIMIT, 2314, CHANV_OPEN_MASK};
+    const struct chanv_source source = {{storage, STORAGE}, start, CHANV_USUAL_LIMIT, 2314};
+    const struct chanv_areas own = {&all, 1};
 
-    if (chanv_take_in(&job, memory, sizeof memory, NULL, &program, &needed) != CHANV_OK)
+    if (chanv_take_in(&source, &own, UINT32_MAX, memory, sizeof memory, NULL, &program, NULL)
+        != CHANV_OK)
         return 0;
     for (size_t i = 0; i < program.rows.keep.len; i++) {
         struct chanv_area kept = program.rows.keep.at[i];
@@ -241,7 +240,7 @@ static void measure(U32 count)
         one->dev = ask.dev;
         chanvask_arg(one, "chanv=0-9");
         if (i < 8)
-            flight.programs[flight.rows++] = *chanvask_ask(one, at);
+            flight.table[flight.rows++].program = *chanvask_ask(one, at);
     }
     clock_gettime(CLOCK_PROCESS_CPUTIME_ID, &began);
     for (U32 i = 0; i < count; i++)

@@ -88,10 +88,10 @@ int start_io(int unit, const struct chanv_job *job)
 }
 
 /* All but low storage. */
-struct chanv_areas user_storage(const struct chanv_job *job)
+struct chanv_areas user_storage(const struct chanv_source *source)
 {
     static const struct chanv_area users = {0x100, 0x2000 - 0x100};
-    (void)job;
+    (void)source;
     return (struct chanv_areas){&users, 1};
 }
 
@@ -103,9 +103,18 @@ void write_storage(struct chanv_area area, const uint8_t *bytes)
 
 /* ---- what is asked beside the loop */
 
-static void check_input(const char *name, int row, const struct chanv_area *area)
+static void check_input(const char *name, int row, struct chanv_area area)
 {
     printf("input into %s: %d\n", name, begin_input(row, area));
+}
+
+/* Takes the program of this number in. */
+static enum chanv_answer take_number_in(int number)
+{
+    const struct chanv_job *job = &jobs[number];
+    struct chanv_source source = {
+        .storage = job->storage, .start = job->start, .limit = job->limit, .device = job->device};
+    return take_in(&source, memory[number], ROOM, &programs[number]);
 }
 
 /* Takes a program in that begins with this CCW. */
@@ -113,7 +122,7 @@ static void try_one(const char *name, uint32_t start, uint64_t ccw)
 {
     put(start, ccw);
     jobs[1] = job_at(start);
-    enum chanv_answer answer = take_in(&jobs[1], memory[1], ROOM, &programs[1]);
+    enum chanv_answer answer = take_number_in(1);
     printf("taken in, %s: %s\n", name, chanv_answer_word(answer));
 }
 
@@ -126,7 +135,7 @@ int main(void)
     put_loop(starts[2], 0xB00);
     for (int i = 0; i < PROGRAMS; i++) {
         jobs[i] = job_at(starts[i]);
-        enum chanv_answer answer = take_in(&jobs[i], memory[i], ROOM, &programs[i]);
+        enum chanv_answer answer = take_number_in(i);
         printf("taken in at %06X: %s\n", starts[i], chanv_answer_word(answer));
     }
     try_one("in low storage", 0xF8, 0x0300000000000001);
@@ -135,12 +144,12 @@ int main(void)
     put(0x108, 0x0800010000000000);
     try_one("a loop", 0x100, 0x0300000040000001);
     jobs[1] = job_at(starts[1]);
-    if (take_in(&jobs[1], memory[1], ROOM, &programs[1]) != CHANV_OK)
+    if (take_number_in(1) != CHANV_OK)
         return 1;
     supervise();
     printf("\n");
-    check_input("a program in flight", UNITS, &of_third);
-    check_input("a program that isn't in flight", UNITS, &of_second);
+    check_input("a program in flight", UNITS, of_third);
+    check_input("a program that isn't in flight", UNITS, of_second);
     enum chanv_answer answer =
         chanv_check_start(&jobs[1], in_flight, ROWS, &programs[1], &refusal);
     const char *word = answer == CHANV_NO ? chanv_refusal_word(refusal.code) : "";

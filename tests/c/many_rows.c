@@ -58,5 +58,6 @@ int main(int argc, char **argv)
         program.rows.keep = (struct chanv_areas){&whole, 1};
         program.kept.len = count;
     }
-    return (int)chanv_check_start(&job, &other, 1, &program, &refusal);
+    struct chanv_row row = row_of(&other);
+    return (int)chanv_check_start(&job, &row, 1, &program, &refusal);
 }

@@ -95,13 +95,13 @@ static void take_in(const struct chanv_job *job, uint32_t bytes, size_t need, si
 {
     static const struct chanv_program none;
     struct chanv_program program;
-    struct chanv_needed needed;
+    struct chanv_intake intake;
     size_t len = UNTOUCHED, fits = need != 0 && need <= room;
     uint8_t *at = (uint8_t *)hand(&memory) + offset;
     memset(&program, UNTOUCHED, sizeof program);
     enum chanv_answer due = need == 0 ? CHANV_NO : fits ? CHANV_OK : CHANV_NO_ROOM;
     enum chanv_answer answer =
-        chanv_take_in(job, room == 0 && offset == 0 ? NULL : at, room, &len, &program, &needed);
+        take_in_freely(job, room == 0 && offset == 0 ? NULL : at, room, &len, &program, &intake);
     if (answer != due)
         fail("another answer", bytes, offset, room);
     if (len != need)
@@ -120,7 +120,7 @@ static void take_in(const struct chanv_job *job, uint32_t bytes, size_t need, si
 static void try_all(const struct chanv_job *job, uint32_t bytes, int is_no)
 {
     const struct chanv_rows *rows = &whole.rows;
-    enum chanv_answer answer = chanv_take_in(job, ample, sizeof ample, NULL, &whole, NULL);
+    enum chanv_answer answer = take_in_freely(job, ample, sizeof ample, NULL, &whole, NULL);
     size_t areas = rows->fetch.len + rows->store.len + rows->keep.len;
     size_t need = is_no ? 0 : 3 + 8 * areas + 4 * rows->extents.len + whole.kept.len;
     if (answer != (is_no ? CHANV_NO : CHANV_OK) || whole.kept.len != bytes)

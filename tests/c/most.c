@@ -57,17 +57,17 @@ static void ask(const char *name, uint8_t code, uint32_t count, uint32_t places)
 {
     struct chanv_job job = generous();
     struct chanv_program program;
-    struct chanv_needed told;
     size_t len = 0, unused;
     put_program(code, count, places);
     job.storage.len = LENGTH, job.limit = places;
-    uint32_t first = chanv_take_in(&job, NULL, 0, &len, &program, &told);
-    uint32_t exact = chanv_take_in(&job, memory, len, NULL, &program, NULL);
+    uint32_t first = take_in_freely(&job, NULL, 0, &len, &program, NULL);
+    uint32_t less = take_in_freely(&job, memory, len - (len > 0), &unused, &program, NULL);
+    uint32_t exact = take_in_freely(&job, memory, len, NULL, &program, NULL);
     int is_wrong = exact == CHANV_OK && !is_right(&program, code, places);
-    uint32_t less = chanv_take_in(&job, memory, len - (len > 0), &unused, &program, NULL);
+    const struct chanv_rows *rows = &program.rows;
     printf("%" PRIu32 " %s: %" PRIu32 " %" PRIu32 " %" PRIu32 ", %zu %zu %zu %zu, %zu, %zu%s\n",
-           places, name, first, exact, less, told.extent_count, told.fetch_count,
-           told.store_count, told.keep_count, told.kept_len, len, is_wrong ? ", wrong rows" : "");
+           places, name, first, exact, less, rows->extents.len, rows->fetch.len, rows->store.len,
+           rows->keep.len, program.kept.len, len, is_wrong ? ", wrong rows" : "");
 }
 
 int main(void)

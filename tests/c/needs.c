@@ -92,7 +92,7 @@ static void print_program(const struct chanv_program *program)
             printf(", wrong bytes");
 }
 
-static void print_remarks(const struct chanv_needed *told)
+static void print_remarks(const struct chanv_intake *told)
 {
     if (told->may_hang != 0 || told->hangs_at != 0 || told->hangs_entered != 0)
         printf(", may hang %u at %06" PRIX32 " %s", told->may_hang, told->hangs_at,
@@ -103,27 +103,55 @@ static void print_remarks(const struct chanv_needed *told)
         printf(", ends chaining %u at %06" PRIX32, told->ends_chaining, told->ends_chaining_at);
 }
 
+static void print_told(enum chanv_answer answer, const struct chanv_program *program,
+                       const struct chanv_intake *told)
+{
+    const struct chanv_rows *rows = &program->rows;
+    printf("needs %u, mask %02" PRIX8 ", storage %" PRIX32 ", %zu %zu %zu %zu, %zu", answer,
+           rows->mask, rows->storage_len, rows->extents.len, rows->fetch.len, rows->store.len,
+           rows->keep.len, program->kept.len);
+    print_remarks(told);
+    if (told->verdict.reason != 0)
+        printf(", no %06" PRIX32 " %s", told->verdict.address,
+               chanv_reason_word(told->verdict.reason));
+    if (told->refusal.code != 0)
+        printf(", refused %s %06" PRIX32, chanv_refusal_word(told->refusal.code),
+               told->refusal.value);
+    if (told->verdict.extent != 0 || told->refusal.extent != 0 || told->refusal.row != CHANV_NOBODY)
+        printf(", an extent or a row");
+    if (answer == CHANV_OK)
+        print_program(program);
+    printf("\n");
+}
+
+static uint8_t memory_of_asked[BYTES];
+
 /* Takes a program in, and prints what is told of it. The next call may overwrite its lists. */
 static struct chanv_program ask(const char *name, struct chanv_job job)
 {
-    static uint8_t memory[BYTES];
     struct chanv_program program;
-    struct chanv_needed told;
+    struct chanv_intake told;
     memset(&told, 0x77, sizeof told);
-    uint32_t code = chanv_take_in(&job, memory, sizeof memory, NULL, &program, &told);
-    printf("%s: needs %" PRIu32 ", mask %02" PRIX8 ", storage %" PRIX32 ", %zu %zu %zu %zu, %zu",
-           name, code, told.mask, told.storage_len, told.extent_count, told.fetch_count,
-           told.store_count, told.keep_count, told.kept_len);
-    print_remarks(&told);
-    if (told.verdict.reason != 0)
-        printf(", no %06" PRIX32 " %s", told.verdict.address,
-               chanv_reason_word(told.verdict.reason));
-    if (told.verdict.extent != 0)
-        printf(", wrong extent %zu", told.verdict.extent);
-    if (code == CHANV_OK)
-        print_program(&program);
-    printf("\n");
+    enum chanv_answer answer =
+        take_in_freely(&job, memory_of_asked, BYTES, NULL, &program, &told);
+    printf("%s: ", name);
+    print_told(answer, &program, &told);
     return program;
+}
+
+/* Takes a program in whose user owns these areas, and that may do so much. */
+static void ask_for(const char *name, struct chanv_areas own, uint32_t allowed)
+{
+    struct chanv_source source = source_of(&poor);
+    struct chanv_program program;
+    struct chanv_intake told;
+    memset(&told, 0x77, sizeof told);
+    enum chanv_answer answer =
+        chanv_take_in(&source, &own, allowed, memory_of_asked, BYTES, NULL, &program, &told);
+    printf("%s", name);
+    print_areas("owned", own);
+    printf(", allowed %" PRIX32 ": ", allowed);
+    print_told(answer, &program, &told);
 }
 
 /* What the job grants plays no part; its storage, start, limit and faults do. */
@@ -182,7 +210,7 @@ static struct chanv_program program_of(const struct chanv_job *job, const struct
         .rows = *rows, .kept = {bytes, len}, .start = job->start, .device = job->device};
 }
 
-static void try_beside(const struct chanv_job *job, const struct chanv_program *in_flight,
+static void try_beside(const struct chanv_job *job, const struct chanv_row *in_flight,
                        size_t count, const struct chanv_program *program)
 {
     struct chanv_refusal refusal;
@@ -284,23 +312,25 @@ static void ask_beside(void)
                                      0x0600081800000008, 0x0600090000000008, 0x06000A0000000008};
     static uint8_t memory[256];
     struct chanv_job job = poor;
-    struct chanv_program two[2] = {{.start = 0}};
+    struct chanv_program program;
     job.fetch = job.store = (struct chanv_areas){all, 1};
     fill(search_loop);
-    if (chanv_take_in(&job, memory, sizeof memory, NULL, &two[1], NULL) != CHANV_OK)
+    if (take_in_freely(&job, memory, sizeof memory, NULL, &program, NULL) != CHANV_OK)
         printf("not taken in\n");
+    const struct chanv_row two[2] = {[1] = row_of(&program)};
     printf("the search loop beside itself: ");
-    try_beside(&job, two, 2, &two[1]);
+    try_beside(&job, two, 2, &program);
     printf("\n");
     for (size_t i = 0; i < sizeof reads / sizeof *reads; i++) {
         const struct word one_read[] = {{0xC00, reads[i]}, {0, 0}};
         fill(one_read), job.start = 0xC00;
-        struct chanv_program read = ask("a read", job), in_flight[2] = {{.start = 0}, read};
+        struct chanv_program read = ask("a read", job);
+        const struct chanv_row in_flight[2] = {[1] = row_of(&read)};
         printf("it beside the search loop: ");
         try_beside(&job, two, 2, &read);
         fill(search_loop), job.start = 0x800;
         printf("; the search loop beside it: ");
-        try_beside(&job, in_flight, 2, &two[1]);
+        try_beside(&job, in_flight, 2, &program);
         printf("\n");
     }
 }
@@ -313,7 +343,8 @@ static void ask_who_writes(void)
                                               {0, 0},     {0xFFFFFFFF, 0xFFFFFFFF}};
     fill(search_loop);
     struct chanv_rows rows = ask("the search loop", poor).rows;
-    struct chanv_program in_flight[2] = {{.start = 0}, program_of(&poor, &rows)};
+    struct chanv_program program = program_of(&poor, &rows);
+    const struct chanv_row in_flight[2] = {[1] = row_of(&program)};
     for (size_t i = 0; i < sizeof areas / sizeof *areas; i++) {
         struct chanv_refusal refusal;
         memset(&refusal, 0x77, sizeof refusal);
@@ -338,12 +369,12 @@ static void take_in(const char *name, struct chanv_job job, size_t over, size_t 
     static _Alignas(8) uint8_t memory[512];
     static const struct chanv_program none;
     struct chanv_program program;
-    struct chanv_needed needed;
+    struct chanv_intake intake;
     size_t len = 77, first = 8 + over;
     memset(memory, 0x77, sizeof memory);
     memset(&program, 0x77, sizeof program);
     void *at = room == 0 ? NULL : memory + first;
-    uint32_t answer = chanv_take_in(&job, at, room, &len, &program, &needed);
+    uint32_t answer = take_in_freely(&job, at, room, &len, &program, &intake);
     printf("%s, %zu bytes: take in %" PRIu32 ", %zu", name, room, answer, len);
     for (size_t i = 0; i < sizeof memory; i++)
         if ((i < first || i >= first + (answer == CHANV_OK ? len : 0)) && memory[i] != 0x77)
@@ -363,8 +394,8 @@ static void take_in(const char *name, struct chanv_job job, size_t over, size_t 
     } else if (memcmp(&program, &none, sizeof none) != 0) {
         printf(", a program");
     }
-    if (needed.verdict.reason != 0)
-        printf(", no %s", chanv_reason_word(needed.verdict.reason));
+    if (intake.verdict.reason != 0)
+        printf(", no %s", chanv_reason_word(intake.verdict.reason));
     printf("\n");
 }
 
@@ -391,38 +422,45 @@ static void take_programs_in(void)
  * second CCW is for another to rely on. */
 static void ask_with_other_rows(void)
 {
-    static const struct chanv_area areas[] = {{0x7F8, 8}, {0x7F8, 9}, {0xA4F, 1}, {0xA50, 8}};
+    static const struct chanv_area areas[] = {{0x7F8, 8},  {0x7F8, 9},     {0x817, 1},
+                                              {0x900, 16}, {0x9FF, 1},     {0xA4F, 1},
+                                              {0xA50, 8},  {0x800, 0},     {0, 0xFFFFFFFF},
+                                              {0x818, 0},  {0xFFFFFFFF, 9}};
     struct chanv_job job = generous();
-    struct chanv_program row;
+    struct chanv_refusal refusal;
     fill(search_loop);
     struct chanv_program program = ask("the search loop", job);
     for (size_t i = 0; i < sizeof areas / sizeof *areas; i++) {
+        const struct chanv_row stores = {.stores = areas[i]}, keeps = {.keeps = areas[i]};
         printf("%" PRIX32 " from %" PRIX32 ": beside who stores ", areas[i].len, areas[i].start);
-        chanv_row_storing(&areas[i], &row);
-        try_beside(&job, &row, 1, &program);
+        try_beside(&job, &stores, 1, &program);
         printf(", beside who keeps ");
-        chanv_row_keeping(&areas[i], &row);
-        try_beside(&job, &row, 1, &program);
+        try_beside(&job, &keeps, 1, &program);
+        printf(", others write what is kept ");
+        print_refusal(chanv_check_write(&keeps, 1, &areas[2], &refusal), &refusal);
         printf("\n");
     }
 }
 
-static void try_kept(const struct chanv_program *program, const struct chanv_area *areas,
-                     size_t count)
+/* A row with a program that also has areas: the program's lists count as well as these. */
+static void ask_with_a_full_row(void)
 {
+    static const struct chanv_area writes[] = {{0x7F8, 8}, {0x800, 1}, {0x810, 1}, {0xC00, 1},
+                                               {0xB00, 1}};
     struct chanv_refusal refusal;
-    memset(&refusal, 0x77, sizeof refusal);
-    printf("only in");
-    print_areas("these", (struct chanv_areas){areas, count});
-    printf(": ");
-    uint32_t answer = chanv_check_kept(program, areas, count, &refusal);
-    print_refusal(answer, &refusal);
-    printf("\n");
+    fill(search_loop);
+    struct chanv_program program = ask("the search loop", poor);
+    const struct chanv_row row = {
+        .program = program, .stores = {0xB00, 8}, .keeps = {0xC00, 8}};
+    for (size_t i = 0; i < sizeof writes / sizeof *writes; i++) {
+        printf("a full row, others write at %" PRIX32 ": ", writes[i].start);
+        print_refusal(chanv_check_write(&row, 1, &writes[i], &refusal), &refusal);
+        printf("\n");
+    }
 }
 
-/* Whether the seeks keep only bytes of some areas: they keep 28 from 800, C from 900 and 6 from
- * 910. */
-static void ask_what_is_kept(void)
+/* Whether the seeks are taken in: they keep 28 from 800, C from 900 and 6 from 910. */
+static void ask_what_is_owned(void)
 {
     static const struct chanv_area exact[] = {{0x910, 6}, {0x900, 0xC}, {0x800, 0x28}};
     static const struct chanv_area pieces[] = {{0x900, 0x17}, {0x810, 0x18}, {0, 0x810}};
@@ -431,18 +469,44 @@ static void ask_what_is_kept(void)
     static const struct chanv_area without[] = {{0x800, 0x28}, {0x910, 6}, {0x90C, 0}};
     static const struct chanv_area most[] = {{0x800, 0x28}, {0x900, 0x15}};
     static const struct chanv_area whole[] = {{0, 0xFFFFFFFF}};
-    static const struct chanv_program none = {.start = 0};
     fill(seeks);
-    struct chanv_program program = ask("the seeks", poor);
-    try_kept(&program, exact, 3);
-    try_kept(&program, pieces, 3);
-    try_kept(&program, short_by_one, 3);
-    try_kept(&program, late, 3);
-    try_kept(&program, without, 3);
-    try_kept(&program, most, 2);
-    try_kept(&program, whole, 1);
-    try_kept(&program, NULL, 0);
-    try_kept(&none, NULL, 0);
+    ask_for("the seeks", (struct chanv_areas){exact, 3}, CHANV_ALLOW_NOTHING);
+    ask_for("the seeks", (struct chanv_areas){pieces, 3}, CHANV_ALLOW_NOTHING);
+    ask_for("the seeks", (struct chanv_areas){short_by_one, 3}, CHANV_ALLOW_NOTHING);
+    ask_for("the seeks", (struct chanv_areas){late, 3}, CHANV_ALLOW_NOTHING);
+    ask_for("the seeks", (struct chanv_areas){without, 3}, CHANV_ALLOW_NOTHING);
+    ask_for("the seeks", (struct chanv_areas){most, 2}, CHANV_ALLOW_NOTHING);
+    ask_for("the seeks", (struct chanv_areas){whole, 1}, CHANV_ALLOW_NOTHING);
+    ask_for("the seeks", (struct chanv_areas){NULL, 0}, ALLOW_ALL);
+}
+
+/* Programs that do one thing, under each sum of what may be allowed and with bits that mean
+ * nothing; and one that does all three. */
+static void ask_what_is_allowed(void)
+{
+    static const struct chanv_area whole[] = {CHANV_ALL_STORAGE};
+    static const struct word all_three[] = {
+        {0x800, 0x3100090048000005}, /* a search that asks for an interruption */
+        {0x808, 0x0800081800000000}, /* another record: a read without end */
+        {0x810, 0x0300000080000001}, /* this record: a No Operation with chain data */
+        {0x818, 0x06000A0040000050},
+        {0x820, 0x0800081800000000},
+        {0, 0},
+    };
+    static const struct {
+        const char *name;
+        const struct word *words;
+    } programs[] = {{"a read without end", endless},
+                    {"an interruption", interrupting},
+                    {"an end of chaining", chaining},
+                    {"all three", all_three}};
+    const struct chanv_areas own = {whole, 1};
+    for (size_t i = 0; i < sizeof programs / sizeof *programs; i++) {
+        fill(programs[i].words);
+        for (uint32_t allowed = 0; allowed < 8; allowed++)
+            ask_for(programs[i].name, own, allowed);
+        ask_for(programs[i].name, own, 0xFFFFFFF8);
+    }
 }
 
 /* Rows that `chanv_take_in` didn't give do no harm, whatever is answered. */
@@ -464,9 +528,9 @@ static void ask_with_rows_that_nobody_gave(void)
         rows.mask = (uint8_t)mask;
         struct chanv_program program = {rows, {storage, SMALL}, poor.start, 2314};
         rows.storage_len = mask % 2 ? SMALL : 0xFFFFFFFF;
-        answers += chanv_check_start(&poor, &program, 1, &program, &refusal) == CHANV_NO
-                   && chanv_check_write(&program, 1, &areas[0], &refusal) == CHANV_NO
-                   && chanv_check_kept(&program, areas, 4, &refusal) == CHANV_NO;
+        struct chanv_row row = {program, areas[0], areas[2]};
+        answers += chanv_check_start(&poor, &row, 1, &program, &refusal) == CHANV_NO
+                   && chanv_check_write(&row, 1, &areas[0], &refusal) == CHANV_NO;
     }
     printf("rows that nobody gave: %d answers\n", answers);
 }
@@ -482,7 +546,9 @@ int main(void)
     ask_who_writes();
     take_programs_in();
     ask_with_other_rows();
-    ask_what_is_kept();
+    ask_with_a_full_row();
+    ask_what_is_owned();
+    ask_what_is_allowed();
     ask_with_rows_that_nobody_gave();
     return 0;
 }

@@ -82,17 +82,17 @@ static int text(const struct chanv_job *job)
 static int take_in(const struct chanv_job *job)
 {
     static const struct chanv_program none;
-    static const struct chanv_needed nothing;
-    struct chanv_needed needed;
+    static const struct chanv_intake nothing = {.refusal.row = CHANV_NOBODY};
+    struct chanv_intake intake;
     struct chanv_program taken;
     uint8_t memory[256], before[256];
     size_t len = 7;
-    memset(&taken, 7, sizeof taken), memset(&needed, 7, sizeof needed);
+    memset(&taken, 7, sizeof taken), memset(&intake, 7, sizeof intake);
     memset(memory, 7, sizeof memory), memcpy(before, memory, sizeof memory);
-    uint32_t answer = chanv_take_in(job, memory, sizeof memory, &len, &taken, &needed);
+    uint32_t answer = take_in_freely(job, memory, sizeof memory, &len, &taken, &intake);
     if (answer != CHANV_OK
         && (len != 0 || memcmp(&taken, &none, sizeof none) != 0
-            || memcmp(&needed, &nothing, sizeof nothing) != 0
+            || memcmp(&intake, &nothing, sizeof nothing) != 0
             || memcmp(memory, before, sizeof memory) != 0))
         return 99;
     return answer == CHANV_OK && len <= sizeof memory ? say("yes\n") : (int)answer;
@@ -118,10 +118,11 @@ static const struct chanv_program program = {
 /* With itself in flight: it keeps no byte that it stores into. */
 static int check_start(const struct chanv_job *job)
 {
-    static const struct chanv_refusal none = {.program = CHANV_NOBODY};
+    static const struct chanv_refusal none = {.row = CHANV_NOBODY};
     struct chanv_refusal refusal;
     memset(&refusal, 7, sizeof refusal);
-    uint32_t answer = chanv_check_start(job, &program, 1, &program, &refusal);
+    struct chanv_row row = row_of(&program);
+    uint32_t answer = chanv_check_start(job, &row, 1, &program, &refusal);
     if (memcmp(&refusal, &none, sizeof none) != 0)
         return 99;
     return answer == CHANV_YES ? say("yes\n") : (int)answer;
@@ -132,21 +133,8 @@ static int check_write(const struct chanv_job *job)
     static const struct chanv_area area = {0x900, 5};
     struct chanv_refusal refusal;
     (void)job;
-    uint32_t answer = chanv_check_write(&program, 1, &area, &refusal);
-    return answer == CHANV_YES ? say("yes\n") : (int)answer;
-}
-
-/* Only bytes of two areas, of which one isn't needed. */
-static int check_kept(const struct chanv_job *job)
-{
-    static const struct chanv_area areas[] = {{0x900, 5}, {0x800, 0x18}};
-    static const struct chanv_refusal none = {.program = CHANV_NOBODY};
-    struct chanv_refusal refusal;
-    (void)job;
-    memset(&refusal, 7, sizeof refusal);
-    uint32_t answer = chanv_check_kept(&program, areas, 2, &refusal);
-    if (memcmp(&refusal, &none, sizeof none) != 0)
-        return 99;
+    struct chanv_row row = row_of(&program);
+    uint32_t answer = chanv_check_write(&row, 1, &area, &refusal);
     return answer == CHANV_YES ? say("yes\n") : (int)answer;
 }
 
@@ -182,8 +170,8 @@ static const struct call {
     {"verify", verify},           {"list", list},
     {"why", why},                 {"text", text},
     {"take_in", take_in},         {"check_start", check_start},
-    {"check_write", check_write}, {"check_kept", check_kept},
-    {"find", find},               {"make_prefix", make_prefix},
+    {"check_write", check_write}, {"make_prefix", make_prefix},
+    {"find", find},
 };
 
 int main(int argc, char **argv)

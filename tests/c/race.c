@@ -195,10 +195,10 @@ static uint32_t text(size_t room)
 static uint32_t take_in(size_t room)
 {
     struct chanv_program *program = answer_of(sizeof *program);
-    struct chanv_needed needed;
+    struct chanv_intake intake;
     size_t len, bytes = ROW * room;
     uint8_t *memory = rows_of(0, 1, bytes);
-    uint32_t code = chanv_take_in(&job, memory, bytes, &len, program, &needed);
+    uint32_t code = take_in_freely(&job, memory, bytes, &len, program, &intake);
     size_t past = code == CHANV_OK ? (size_t)(program->kept.at - memory) + program->kept.len : 0;
     within(code, code == CHANV_OK, past, len);
     return within(code, code == CHANV_OK, len, bytes);
@@ -214,7 +214,8 @@ static uint32_t check_start(size_t room)
 {
     struct chanv_refusal *refusal = answer_of(sizeof *refusal);
     (void)room;
-    return chanv_check_start(&job, &remembered.program, 1, &remembered.program, refusal);
+    struct chanv_row row = row_of(&remembered.program);
+    return chanv_check_start(&job, &row, 1, &remembered.program, refusal);
 }
 
 /* This doesn't look at storage, so its answer is always the same. */
@@ -223,7 +224,8 @@ static uint32_t check_write(size_t room)
     static const struct chanv_area area = {0, START};
     struct chanv_refusal *refusal = answer_of(sizeof *refusal);
     (void)room;
-    return chanv_check_write(&remembered.program, 1, &area, refusal);
+    struct chanv_row row = row_of(&remembered.program);
+    return chanv_check_write(&row, 1, &area, refusal);
 }
 
 /* Storage with a program's kept bytes, and with others that nothing depends on. */
@@ -293,7 +295,6 @@ static void look_at_the_rest(uint32_t code)
 static void begin(void)
 {
     struct chanv_verdict verdict;
-    struct chanv_needed needed;
     size_t len;
     job = good, job.fetch.at = fetch, job.store.at = store, job.limit = 64;
     put_right(1);
@@ -307,8 +308,8 @@ static void begin(void)
             fail("another reason", verdict.reason);
         put_right(1);
     }
-    uint32_t code = chanv_take_in(&job, remembered.memory, sizeof remembered.memory, &len,
-                                  &remembered.program, &needed);
+    uint32_t code = take_in_freely(&job, remembered.memory, sizeof remembered.memory, &len,
+                                   &remembered.program, NULL);
     if (code != CHANV_OK || chanv_verify(&job, &verdict) != CHANV_YES)
         fail("the program is wrong", code);
     remembered_before = remembered;

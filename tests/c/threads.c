@@ -8,7 +8,8 @@ enum { THREADS = 8, ROUNDS = 20000, MEMORY = 256 };
 
 static uint8_t memory[MEMORY];
 static const uint8_t masks[THREADS] = {0x00, 0x40, 0x80, 0xC0, 0x08, 0x10, 0x18, 0x58};
-static struct chanv_program in_flight[2], program;
+static struct chanv_row in_flight[2];
+static struct chanv_program program;
 
 static struct chanv_job job_of(int thread)
 {
@@ -31,11 +32,11 @@ static void ask(int thread, struct answers *told)
     struct chanv_job job = job_of(thread);
     struct chanv_area area = {0x7F8, 8 + (uint32_t)thread};
     struct chanv_program taken;
-    struct chanv_needed needed;
+    struct chanv_intake intake;
     memset(told, 0, sizeof *told);
     told->start = chanv_check_start(&job, in_flight, 2, &program, &told->refusals[0]);
     told->write = chanv_check_write(in_flight, 2, &area, &told->refusals[1]);
-    told->taken_in = chanv_take_in(&job, told->memory, MEMORY, &told->len, &taken, &needed);
+    told->taken_in = take_in_freely(&job, told->memory, MEMORY, &told->len, &taken, &intake);
     told->kept_len = taken.kept.len;
 }
 
@@ -61,13 +62,13 @@ int main(void)
 {
     static struct work works[THREADS];
     struct chanv_job job = job_of(1);
-    struct chanv_needed needed;
+    struct chanv_intake intake;
     unsigned long differed = 0;
     fill(search_loop);
     size_t len;
-    if (chanv_take_in(&job, memory, MEMORY, &len, &program, &needed) != CHANV_OK)
+    if (take_in_freely(&job, memory, MEMORY, &len, &program, &intake) != CHANV_OK)
         return 1;
-    in_flight[1] = program;
+    in_flight[1] = row_of(&program);
     for (int i = 0; i < THREADS; i++) {
         works[i].thread = i;
         ask(i, &works[i].before);

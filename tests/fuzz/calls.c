@@ -27,7 +27,7 @@ static struct chanv_verdict verdict;
 static struct chanv_place places[PLACES], path[PLACES], second_path[PLACES];
 static size_t place_count;
 static struct chanv_program program;
-static struct chanv_needed needed;
+static struct chanv_intake intake;
 static uint32_t memory[MEMORY / 4], other_memory[MEMORY / 4];
 
 /* A byte for each byte of storage: whether it is stored into or kept. */
@@ -100,6 +100,11 @@ static void make_job(const uint8_t *at, size_t len)
 
 /* ---- the verdict, the places, the explanation */
 
+static int is_fault(enum chanv_answer code)
+{
+    return code >= CHANV_STORAGE_TOO_LARGE && code <= CHANV_NOT_A_LIMIT;
+}
+
 static void check_verdict(void)
 {
     memset(&verdict, 0xAA, sizeof verdict);
@@ -109,7 +114,7 @@ static void check_verdict(void)
         MUST(*chanv_reason_word(verdict.reason) != '\0');
     else
         MUST(verdict.address == 0 && verdict.reason == 0);
-    MUST(chanv_is_fault(answer) || verdict.extent == 0);
+    MUST(is_fault(answer) || verdict.extent == 0);
 }
 
 static uint64_t order(const struct chanv_place *place)
@@ -229,6 +234,19 @@ static void must_be_yes(const struct chanv_job *asked)
     MUST(chanv_check_start(asked, NULL, 0, &program, &no) == CHANV_YES);
 }
 
+static const struct chanv_area whole = CHANV_ALL_STORAGE;
+static const struct chanv_areas everything = {&whole, 1};
+
+/* Takes a job's program in, for a user who owns these areas. */
+static enum chanv_answer take_in(const struct chanv_job *asked, struct chanv_areas own,
+                                 uint32_t allowed, void *room, size_t len, size_t *used,
+                                 struct chanv_program *taken)
+{
+    struct chanv_source source = {asked->storage, asked->start, asked->limit, asked->device};
+    memset(&intake, 0xAA, sizeof intake);
+    return chanv_take_in(&source, &own, allowed, room, len, used, taken, &intake);
+}
+
 /* The kept bytes are storage's; so much memory is enough, and a byte less isn't. */
 static void check_rows(size_t len)
 {
@@ -240,10 +258,11 @@ static void check_rows(size_t len)
     for (int i = 0; i < STORAGE; i++)
         if (kept[i])
             MUST(program.kept.at[at++] == storage[i]);
-    MUST(at == program.kept.len && at == needed.kept_len);
+    MUST(at == program.kept.len);
     uint8_t *room = (uint8_t *)other_memory + (choice[36] & 7);
-    MUST(chanv_take_in(&job, room, len, &again, &same, NULL) == CHANV_OK && again == len);
-    MUST(chanv_take_in(&job, room, len - 1, &again, &same, NULL) == CHANV_NO_ROOM);
+    MUST(take_in(&job, everything, UINT32_MAX, room, len, &again, &same) == CHANV_OK);
+    MUST(again == len);
+    MUST(take_in(&job, everything, UINT32_MAX, room, len - 1, &again, &same) == CHANV_NO_ROOM);
     MUST(again == len);
 }
 
@@ -298,10 +317,12 @@ static void check_start(void)
 {
     struct chanv_refusal no;
     enum chanv_answer alone = chanv_check_start(&job, NULL, 0, &program, &no);
-    MUST(alone <= CHANV_NO && (answer > CHANV_NO || alone == answer));
-    MUST(alone == CHANV_YES
+    MUST(is_fault(answer) || alone <= CHANV_NO);
+    MUST(answer == CHANV_TOO_MANY_PLACES || alone == answer);
+    MUST(alone != CHANV_NO
          || (no.code >= CHANV_REFUSED_MASK && no.code <= CHANV_REFUSED_NOT_STORABLE));
-    MUST(chanv_check_start(&job, &program, 1, &program, &no) == alone);
+    struct chanv_row row = {.program = program};
+    MUST(chanv_check_start(&job, &row, 1, &program, &no) == alone);
 }
 
 static void check_write(void)
@@ -312,31 +333,71 @@ static void check_write(void)
     while (first < area.start + area.len && !(first < STORAGE && kept[first]))
         first++;
     int meets = first < area.start + area.len;
-    MUST(chanv_check_write(&program, 1, &area, &no) == (meets ? CHANV_NO : CHANV_YES));
+    struct chanv_row row = {.program = program};
+    MUST(chanv_check_write(&row, 1, &area, &no) == (meets ? CHANV_NO : CHANV_YES));
     MUST(!meets || (no.code == CHANV_REFUSED_WRITES_OVER_KEPT && no.value == first));
-    MUST(chanv_check_kept(&program, program.rows.keep.at, program.rows.keep.len, &no) == CHANV_YES);
-    MUST(chanv_check_kept(&program, NULL, 0, &no) == CHANV_NO);
-    MUST(no.code == CHANV_REFUSED_KEEPS_OUTSIDE && no.value == program.rows.keep.at[0].start);
+}
+
+/* Who owns just what the program keeps may run it; who owns nothing, or a byte less, may not. */
+static void check_owned(void)
+{
+    static struct chanv_area fewer[2];
+    struct chanv_program same;
+    struct chanv_area cut = program.rows.keep.at[0];
+    struct chanv_areas none = {NULL, 0}, less = {fewer, 2};
+    uint32_t missing = choice[38] % cut.len;
+    fewer[0] = (struct chanv_area){0, cut.start + missing};
+    fewer[1] = (struct chanv_area){cut.start + missing + 1, 0xFFFFFFFF};
+    MUST(take_in(&job, program.rows.keep, UINT32_MAX, other_memory, MEMORY, NULL, &same)
+         == CHANV_OK);
+    MUST(take_in(&job, none, UINT32_MAX, other_memory, MEMORY, NULL, &same) == CHANV_NO);
+    MUST(intake.refusal.code == CHANV_REFUSED_KEEPS_OUTSIDE && intake.refusal.value == cut.start);
+    MUST(take_in(&job, less, UINT32_MAX, other_memory, MEMORY, NULL, &same) == CHANV_NO);
+    MUST(intake.refusal.value == cut.start + missing);
+}
+
+/* Whatever the program may do is refused, exactly if it isn't allowed, and the first comes first. */
+static void check_allowed(void)
+{
+    struct chanv_program same;
+    uint32_t allowed = choice[37] & 7;
+    enum chanv_answer code =
+        take_in(&job, everything, allowed, other_memory, MEMORY, NULL, &same);
+    uint32_t refused = 0;
+    if (intake.ends_chaining && !(allowed & CHANV_ALLOW_ENDING_CHAINS))
+        refused = CHANV_REFUSED_ENDS_CHAINING;
+    if (intake.interrupts && !(allowed & CHANV_ALLOW_INTERRUPTING))
+        refused = CHANV_REFUSED_INTERRUPTS;
+    if (intake.may_hang && !(allowed & CHANV_ALLOW_HANGING))
+        refused = CHANV_REFUSED_MAY_HANG;
+    MUST(code == (refused ? CHANV_NO : CHANV_OK) && intake.refusal.code == refused);
 }
 
 /* Beside another program of the same storage, among rows of zeros. */
 static void check_beside(void)
 {
     static uint8_t others_stored[STORAGE], others_kept[STORAGE];
-    struct chanv_program table[3];
+    struct chanv_row table[3];
+    struct chanv_program *taken = &table[1].program;
     struct chanv_refusal no;
     struct chanv_job least = least_job(), other = job;
     memset(table, 0, sizeof table);
     other.start = choice[37] * 8u;
-    if (chanv_take_in(&other, other_memory, MEMORY, NULL, &table[1], NULL) != CHANV_OK)
+    if (take_in(&other, everything, UINT32_MAX, other_memory, MEMORY, NULL, taken) != CHANV_OK)
         return;
-    mark(&table[1].rows.store, others_stored);
-    mark(&table[1].rows.keep, others_kept);
+    mark(&taken->rows.store, others_stored);
+    mark(&taken->rows.keep, others_kept);
     uint32_t code = meet(stored, others_kept)   ? CHANV_REFUSED_STORES_OVER_KEPT
                     : meet(kept, others_stored) ? CHANV_REFUSED_KEEPS_STORED_OVER
                                                 : 0;
+    size_t row = 1;
+    table[2].stores = (struct chanv_area){choice[36] * 8u, choice[39] % 3u};
+    memset(others_stored, 0, STORAGE);
+    memset(others_stored + table[2].stores.start, 1, table[2].stores.len);
+    if (code == 0 && meet(kept, others_stored))
+        code = CHANV_REFUSED_KEEPS_STORED_OVER, row = 2;
     MUST(chanv_check_start(&least, table, 3, &program, &no) == (code ? CHANV_NO : CHANV_YES));
-    MUST(no.code == code && (code == 0 || no.program == 1));
+    MUST(no.code == code && no.row == (code ? row : CHANV_NOBODY));
 }
 
 static void check_taken_in(void)
@@ -344,15 +405,14 @@ static void check_taken_in(void)
     static const struct chanv_program zeros;
     size_t len;
     uint8_t *room = (uint8_t *)memory + (choice[35] & 7);
-    enum chanv_answer taken = chanv_take_in(&job, room, MEMORY - 8, &len, &program, &needed);
-    MUST(taken != CHANV_MEMORY && taken < CHANV_NO_ROOM);
-    if (chanv_is_fault(answer) || chanv_is_fault(taken))
-        MUST(taken == answer && needed.verdict.extent == verdict.extent);
+    enum chanv_answer taken =
+        take_in(&job, everything, UINT32_MAX, room, MEMORY - 8, &len, &program);
+    MUST(taken != CHANV_MEMORY && taken < CHANV_NO_ROOM && intake.verdict.extent == 0);
+    MUST(!is_fault(taken) || is_fault(answer));
     if (answer == CHANV_YES)
         MUST(taken == CHANV_OK);
     if (taken != CHANV_OK) {
         MUST(len == 0 && !memcmp(&program, &zeros, sizeof zeros));
-        MUST(taken != CHANV_NO || answer == CHANV_NO || answer == CHANV_TOO_MANY_PLACES);
         return;
     }
     check_rows(len);
@@ -360,6 +420,8 @@ static void check_taken_in(void)
     check_kept();
     check_start();
     check_write();
+    check_owned();
+    check_allowed();
     check_beside();
 }
 

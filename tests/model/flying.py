@@ -27,12 +27,14 @@ class Flight(NamedTuple):
 
 class Flights:
     """What happens on one storage. `supervisor` has the calls of the worked supervisor: `take_in`,
-    `rows`, `start`, `leave` and `may_write`."""
+    `rows`, `start`, `leave` and `may_write`, and says by `arm` to which cylinder the prefix of the
+    last start moved the arm, if there was one."""
 
     def __init__(self, supervisor, seed):
         self.supervisor, self.random = supervisor, Random(seed)
         self.storage = supervisor.storage
         self.asked, self.flights, self.was_started = {}, {}, set()
+        self.arms = dict.fromkeys(range(UNITS), 0)
         names = "taken_in refused started again held_back busy written other_device".split()
         self.counts = dict.fromkeys([*names, *(f"on_{it}" for it in TYPES)], 0)
 
@@ -97,6 +99,8 @@ class Flights:
         if job.device != self.asked[number].device:
             return "on another type of device"
         self.flights[unit] = Flight(number, job, (first_place(job), ()))
+        arm = self.supervisor.arm()
+        self.arms[unit] = self.arms[unit] if arm is None else arm
         self.count("started", f"on_{job.device}", *["again"] * (number in self.was_started))
         self.was_started.add(number)
         return None
@@ -114,7 +118,11 @@ class Flights:
         for reason in harms(flight.job, events):
             return reason
         for what, *values in events:
+            if what == "seek":
+                self.arms[unit] = int.from_bytes(values[0][2:4], "big")
             if what == "store":
+                if not any(first <= self.arms[unit] <= last for first, last in flight.job.extents):
+                    return "data from outside its extents"
                 address, moved = values
                 self.storage[address : address + moved] = self.random.randbytes(moved)
         if stage != ENDED and not isinstance(stage, tuple):

@@ -141,7 +141,9 @@ def are_stored(job, faults, addresses):
 def known_setting(job, faults, place):
     """What the operation at a place sets, if no reachable CCW stores over what it takes that from."""
     ccw = ccw_at(job.storage, place.address)
-    data = range(ccw.address, ccw.address + ccw.count) if ccw else ()
+    command = COMMANDS.get(ccw.code) if ccw and place.entered == FRESH else None
+    takes = ccw and not (command and command.kind == "idle")
+    data = range(ccw.address, ccw.address + ccw.count) if takes else ()
     taken = guarded(job, {place: faults[place]})[1] if ccw else ()
     return None if are_stored(job, faults, {*data, *taken}) else setting_of(job, place)
 
@@ -154,8 +156,9 @@ def compared_by(job, faults, place):
     is_search = command and command.kind == "search" and not ccw.is_transfer()
     if not is_search or ccw.flags & 0x80 or are_stored(job, faults, data):
         return ""
-    # past storage there are zeros
-    value = bytes(job.storage[at] if at < len(job.storage) else 0 for at in data)
+    if data and data[-1] >= len(job.storage):
+        return ""
+    value = bytes(job.storage[at] for at in data)
     if "-key-" in command.name:
         key, more = value[:MOST_OF_KEY], ".." * (len(value) > MOST_OF_KEY)
         is_text = all(byte in SHOWN_IN_KEYS for byte in key)
@@ -207,7 +210,7 @@ def done_by(job, faults, place, ccw):
     is_search = place.entered == FRESH and len(after) == 2
     back = ccw_at(job.storage, after[0].address) if is_search else None
     is_loop = back and back.is_transfer() and back.address == place.address
-    return f"fetches{amount_of(ccw)}{' until found' * bool(is_loop)}{behind}"
+    return f"fetches{amount_of(ccw)}{', until found' * bool(is_loop)}{behind}"
 
 
 def wide_of(job, faults, found):

@@ -143,7 +143,8 @@ const OF_DECK: &str = "Addresses, lengths, sizes and the mask are hexadecimal, w
 --store.
 
 The image is raw bytes, or a dump as text with an address before the bytes of
-each line, which places them; --at places it elsewhere. Storage ends with the
+each line, which places them; --at places it elsewhere. Other text is refused,
+unless --raw says that its characters are the bytes. Storage ends with the
 image, filled with zeros to a multiple of 8, unless --storage gives its size. If
 --at is wrong, so are the answers.
 
@@ -157,8 +158,8 @@ With either, leave out mask, extents and areas:
 The exit status:
   0  the deck was written
   1  with --least: no job will do
-  2  a dump can't be read, the image is too long, or with --least too many
-     places are reachable
+  2  a text can't be read as a dump, the image is too long, or with --least too
+     many places are reachable
   3  FILE can't be opened, reading or writing failed, or memory ran out
   4  the command line is wrong, or the image ends past --storage";
 
@@ -224,6 +225,13 @@ pub(crate) const STORAGE: Word = Word {
     kind: Kind::Size,
     given: Given::Optional,
     help: "hexadecimal size of storage (default: image's end)",
+};
+
+pub(crate) const RAW: Word = Word {
+    name: "raw",
+    kind: Kind::Flag,
+    given: Given::Optional,
+    help: "takes a text's characters as the bytes of the image",
 };
 
 pub(crate) const MASK: Word = Word {
@@ -312,11 +320,11 @@ const IMAGES: Word = Word {
 
 /// The options of a deck that is made of an image, and the image.
 const MAKING: &[Word] = &[
-    DEVICE, MASK, START, LIMIT, EXTENT, FETCH, STORE, LEAST, OPEN, AT, STORAGE, IMAGE,
+    DEVICE, MASK, START, LIMIT, EXTENT, FETCH, STORE, LEAST, OPEN, AT, STORAGE, RAW, IMAGE,
 ];
 
 /// The options of a search for programs in images, and the images.
-const SEARCHING: &[Word] = &[DEVICE, LIMIT, AT, STORAGE, IMAGES];
+const SEARCHING: &[Word] = &[DEVICE, LIMIT, AT, STORAGE, RAW, IMAGES];
 
 /// The commands, in the order of help.
 pub(crate) const COMMANDS: &[CommandRow] = &[
@@ -412,7 +420,7 @@ fn program<'a>(alloc: Global) -> Result<Command<'a>, AllocError> {
     Ok(
         Command::new(alloc, "chanv")
             .about("tells whether System/360 channel programs are safe to start")
-            .version("0.8.0")
+            .version("1.0.0")
             .override_usage(USAGE),
     )
 }

@@ -38,6 +38,8 @@ pub struct ImageOptions {
     pub store: Vec<Area>,
     /// The address at which the image begins, at most `FFFFFF`.
     pub at: u32,
+    /// The areas of the image that no line of its dump tells, in order.
+    pub gaps: Vec<Area>,
     /// How many bytes storage has, with zeros after the image; without a value, as many as the
     /// image needs.
     pub size: Option<u32>,

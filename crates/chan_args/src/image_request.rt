@@ -5,7 +5,7 @@ ghost use Rattle.std.specs.Prelude.{◌≡◌, ◌≤◌, ◌<◌, ◌%◌, IfOk
 ghost use Rattle.ccw_core.specs.declared.ccw.TheConstants.{STORAGE_LIMIT};
 
 use crate::command_table::{
-    AT, DEVICE, EXTENT, FETCH, LEAST, LIMIT, MASK, OPEN, START, STORAGE, STORE, Word,
+    AT, DEVICE, EXTENT, FETCH, LEAST, LIMIT, MASK, OPEN, RAW, START, STORAGE, STORE, Word,
 };
 use crate::image_options::{ImageOptions, RequestedJob};
 use crate::met::{is_flagged, text_met};
@@ -27,6 +27,8 @@ pub struct ImageRequest {
     pub is_usual_device: bool,
     /// Whether the address of the image is given. Otherwise a dump has its own.
     pub is_placed: bool,
+    /// Whether the input is the image as it is, even if it is text.
+    pub is_raw: bool,
 }
 
 /// Why options weren't read.
@@ -157,6 +159,7 @@ fn options_met<'a>(
         fetch,
         store,
         at,
+        gaps: Vec::new(alloc),
         size,
         job,
     })
@@ -173,5 +176,6 @@ pub(crate) fn image_request<'a>(
         options: options_met(alloc, matches)?,
         is_usual_device: text_met(matches, DEVICE).is_none(),
         is_placed: text_met(matches, AT).is_some(),
+        is_raw: is_flagged(matches, RAW),
     })
 }

@@ -5,8 +5,8 @@ ghost use Rattle.chan_why.specs.Findings.{AreFindings};
 use crate::explanation::why_text;
 use crate::help::{help_text, unseen_note};
 use crate::note_lines::{absent_note, notes_on};
+use crate::unread::ImageBytes;
 use crate::wrong_image::image_faults;
-use ccw_core::Area;
 use chan_why::Findings;
 use std::alloc::{AllocError, Global};
 
@@ -45,9 +45,12 @@ pub fn needs_advice(
 }
 
 /// What follows the explanation of an image for which no job will do, from what was found of its
-/// program's open job; `read` is what was read of the image. An error means that an allocation
-/// failed.
-pub fn image_advice(alloc: Global, findings: &Findings, read: Area) -> Result<String, AllocError> {
+/// program's open job; `read` is what the image holds. An error means that an allocation failed.
+pub fn image_advice(
+    alloc: Global,
+    findings: &Findings,
+    read: &ImageBytes<'_>,
+) -> Result<String, AllocError> {
     let faults = image_faults(alloc, findings, read)?;
     let unseen = unseen_note(&findings.survey);
     let help = help_text(alloc, findings)?;

@@ -37,11 +37,14 @@ impl<'a> Shown<'a> {
     }
 
     /// What the operation that begins at a place sets, if no reachable CCW stores over what it
-    /// takes that from.
+    /// takes that from. Recalibrate takes nothing.
     pub(crate) fn setting_of(&self, look: &Look) -> Option<Setting> {
         let data = data_of(&look.ccw()?);
+        let is_idle = look
+            .command()
+            .is_some_and(|command| command.kind() == Kind::Idle);
         let mut argument = look.argument().iter();
-        if self.stored.meets(data.start, data.len)
+        if !is_idle && self.stored.meets(data.start, data.len)
             || argument.any(|address| self.stored.meets(*address, 1))
         {
             return None;
@@ -50,7 +53,7 @@ impl<'a> Shown<'a> {
     }
 
     /// Adds what the search that begins at a place compares, in parentheses, if it is all in the
-    /// data of its CCW and no reachable CCW stores over that.
+    /// data of its CCW and in storage, and no reachable CCW stores over that.
     pub(crate) fn push_compared(&self, out: &mut String, look: &Look) -> Result<(), AllocError> {
         let (Some(ccw), Some(command)) = (look.ccw(), look.command()) else {
             return Ok(());
@@ -58,6 +61,7 @@ impl<'a> Shown<'a> {
         let data = data_of(&ccw);
         if command.kind() != Kind::Search
             || ccw.chains_data()
+            || self.job.storage.range(data.start, data.len).is_none()
             || self.stored.meets(data.start, data.len)
         {
             return Ok(());

@@ -1,46 +1,29 @@
 //! Reading a dump of storage, which is text, as an image.
 
-use crate::dump_line::{Fault, Front, HIGH, Spelled, front_of};
-use crate::hint::{BYTE_ORDER_MARK, SHOWN, push_caret_at, push_shown};
+use crate::dump_form::{Front, front_of, nearest_form};
+use crate::dump_line::{Fault, Spelled};
+use crate::dump_note::{
+    AGAIN, DECIMAL, DIFFERS, GAP, HIGH, IS_DECK, LABEL, LIKE, LINE, NONE, ONE_LINE, REPEAT, STEP,
+    SWAPPED, notes_text, refusal_text,
+};
 use crate::image_note::is_deck;
-use crate::verdict_line::Range;
+use crate::plain_text::text_of;
 use ccw_core::{Area, STORAGE_LIMIT};
 use std::alloc::{AllocError, Global};
-use std::fmt::Write as _;
 use std::str;
 use thiserror::Error;
 
-const LINE: &str = "no address, no repeat and no comment";
-
-const SWAPPED: &str =
-    "words of two bytes may be swapped; dump with od -Ax -tx1, or put a colon after each address";
-
-const DIFFERS: &str = "another line has another byte at this address";
-
-const AGAIN: &str = "the repeat goes over bytes of another line";
-
-const STEP: &str = "the bytes above don't end here";
-
-const GAP: &str = "the bytes above don't end here; if none is missing, put an empty line between";
-
-const REPEAT: &str = "it isn't known what is repeated, or how often";
-
 /// What a line begins with that may come between the lines of a dump and tells no bytes: headings
-/// of an ABEND dump, and what a log of Hercules has.
+/// of an ABEND dump, and lines of a listing that aren't rows.
 const HEADINGS: &str =
     "JOB |COMPLETION CODE|NUCLEUS|REGS |FLTS |FLTR |P/P |SP |LOAD MODULE |CSECT |\
-    TRACE |PAGE |END OF DUMP|HHC|r |quit";
+    TRACE |PAGE |END OF DUMP|because |yes|no ";
 
-/// How many bytes after an address tell that a line is one of a dump, though it can't be read.
-const BEGUN: usize = 4;
+/// How many columns of a line are compared with those of another.
+const LIKE_COLUMNS: usize = 32;
 
-/// How many gaps a note lists.
-const GAPS_LISTED: usize = 8;
-
-/// How much of a line is shown after the character that is refused, and of any line.
-const SHOWN_AFTER: usize = 20;
-
-const MOST_SHOWN: usize = 240;
+/// How long a text may be that is a single line without an end.
+const LONGEST: usize = 120;
 
 /// An image that a dump gives.
 #[derive(Drop)]
@@ -49,7 +32,9 @@ pub struct Dump {
     pub at: u32,
     /// The bytes that the dump tells, and zeros in its gaps.
     pub image: Vec<u8>,
-    /// The notes on lines that were passed over and on gaps.
+    /// The areas that no line tells.
+    pub gaps: Vec<Area>,
+    /// The notes on addresses, on lines that were passed over and on gaps.
     pub notes: String,
 }
 
@@ -70,35 +55,23 @@ impl From<AllocError> for DumpError {
     }
 }
 
-/// Whether bytes are text: no control characters but those that part words, lines and pages.
-pub fn is_text(bytes: &[u8]) -> bool {
-    bytes.iter().all(|byte| matches!(*byte, b' '..=b'~' | b'\t' | b'\n' | b'\r' | b'\x0C' | 0x80..))
-}
-
-/// The image that a dump gives; `None` if the text isn't one: it is a deck, or no line of it is an
-/// address with bytes.
-pub fn read_dump(alloc: Global, text: &[u8]) -> Result<Option<Dump>, DumpError> {
-    let text = text.strip_prefix(BYTE_ORDER_MARK).unwrap_or(text);
-    if is_deck(text) || !is_text(text) {
+/// The image that a dump gives; `None` if the input isn't text.
+pub fn read_dump(alloc: Global, input: &[u8]) -> Result<Option<Dump>, DumpError> {
+    let Some(characters) = text_of(alloc, input)? else {
         return Ok(None);
+    };
+    let text = characters.text();
+    if is_deck(text) {
+        return Err(DumpError::Refused(String::from_str(alloc, IS_DECK)?));
     }
     let mut reading = Reading::new(alloc);
-    if !reading.is_begun(text)? {
-        return Ok(None);
-    }
-    for (number, line) in (1..u64::MAX).zip(text.split(is_line_feed)) {
-        let line = line.trim_ascii_end();
-        match reading.read_line(line, number) {
-            Ok(()) => {}
-            Err(Fault::Memory) => return Err(DumpError::Memory),
-            Err(Fault::At(why, column)) => {
-                return Err(DumpError::Refused(refusal(alloc, line, number, why, column)?));
-            }
+    match reading.read_lines(text) {
+        Ok(()) => Ok(Some(reading.finish(alloc)?)),
+        Err((_, _, Fault::Memory)) => Err(DumpError::Memory),
+        Err((number, line, Fault::At(why, column))) => {
+            let is_dump = reading.row.is_some();
+            Err(DumpError::Refused(refusal_text(alloc, line, number, why, column, is_dump)?))
         }
-    }
-    match reading.star {
-        Some(number) => Err(DumpError::Refused(refusal(alloc, b"*", number, REPEAT, 0)?)),
-        None => Ok(Some(reading.finish(alloc)?)),
     }
 }
 
@@ -107,25 +80,7 @@ fn is_line_feed(byte: &u8) -> bool {
     *byte == b'\n'
 }
 
-/// What is said of a line that can't be read.
-fn refusal(
-    alloc: Global,
-    line: &[u8],
-    number: u64,
-    why: &str,
-    column: usize,
-) -> Result<String, AllocError> {
-    let mut out = format!(in alloc; "dump line {number}: {why}\nfound ")?;
-    let room = column.saturating_add(SHOWN_AFTER).clamp(SHOWN, MOST_SHOWN);
-    push_shown(&mut out, line, room)?;
-    out.push('\n')?;
-    if column < room {
-        push_caret_at(&mut out, line, column)?;
-    }
-    Ok(out)
-}
-
-/// The bytes of a line that was read.
+/// A line with bytes that was read.
 #[derive(Clone, Copy)]
 struct Row {
     /// The address of its first byte, and how many it has.
@@ -133,6 +88,11 @@ struct Row {
     len: usize,
     /// The address after its last byte, or after its repeats.
     end: usize,
+    /// How many digits its address has, and the number that they are in decimal.
+    width: usize,
+    decimal: Option<usize>,
+    /// Whether it is of a log, which has other lines.
+    is_logged: bool,
 }
 
 /// What was read of a dump.
@@ -153,6 +113,8 @@ struct Reading {
     star: Option<u64>,
     /// How many lines tell no bytes and are no comment.
     passed: u64,
+    /// The number of the first line whose address has fewer digits than that of the line before.
+    shorter: Option<u64>,
 }
 
 impl Reading {
@@ -166,34 +128,41 @@ impl Reading {
             is_octal: false,
             star: None,
             passed: 0,
+            shorter: None,
         }
     }
 
-    /// Whether a line of a text is an address with bytes, or begins with an address and `BEGUN`
-    /// bytes. The first tells whether addresses are octal.
-    fn is_begun(&mut self, text: &[u8]) -> Result<bool, AllocError> {
-        for line in text.split(is_line_feed) {
+    /// Reads the lines of a text. A fault comes with the number of its line and the line.
+    fn read_lines<'t>(&mut self, text: &'t [u8]) -> Result<(), (u64, &'t [u8], Fault)> {
+        let first = text
+            .split(is_line_feed)
+            .find(|line| front_of(line).is_some());
+        let first = first.unwrap_or(&[]);
+        self.is_octal = front_of(first).is_some_and(|front| front.is_octal());
+        if text.len() > LONGEST && !text.contains(&b'\n') {
+            return Err((1, text, Fault::At(ONE_LINE, 0)));
+        }
+        for (number, line) in (1..u64::MAX).zip(text.split(is_line_feed)) {
             let line = line.trim_ascii_end();
-            let Some(front) = front_of(line) else {
-                continue;
-            };
-            let fewest = match front.read_bytes(line, &mut self.read) {
-                Ok(()) => 1,
-                Err(Fault::At(..)) => BEGUN,
-                Err(Fault::Memory) => return Err(AllocError),
-            };
-            if self.read.len() >= fewest {
-                self.is_octal = front.is_octal();
-                return Ok(true);
+            if let Err(fault) = self.read_line(line, number, first) {
+                return Err((number, line, fault));
             }
         }
-        Ok(false)
+        let mut lines = (1..u64::MAX).zip(text.split(is_line_feed));
+        let (number, line) = lines
+            .find(|(_, line)| !line.trim_ascii().is_empty())
+            .unwrap_or((1, b""));
+        match (self.star, self.row) {
+            (Some(number), _) => Err((number, b"*", Fault::At(REPEAT, 0))),
+            (None, None) => Err((number, line, Fault::At(NONE, nearest_form(line).1))),
+            (None, Some(_)) => Ok(()),
+        }
     }
 
-    /// Reads a line.
-    fn read_line(&mut self, line: &[u8], number: u64) -> Result<(), Fault> {
+    /// Reads a line; `first` is the first with an address.
+    fn read_line(&mut self, line: &[u8], number: u64, first: &[u8]) -> Result<(), Fault> {
         if let Some(front) = front_of(line) {
-            return self.read_row(line, &front);
+            return self.read_row(line, number, &front);
         }
         let text = line.trim_ascii();
         let column = line.len().saturating_sub(line.trim_ascii_start().len());
@@ -203,7 +172,8 @@ impl Reading {
         match (text, self.row) {
             ([b'*'], Some(_)) => self.star = Some(number),
             ([] | [b';' | b'*', ..], _) => self.is_next = false,
-            (_, Some(_)) if !is_heading(text) => return Err(Fault::At(LINE, column)),
+            (_, None) if is_like(line, first) => return Err(Fault::At(LIKE, column)),
+            (_, Some(row)) if !is_passed(text, row) => return Err(Fault::At(LINE, column)),
             _ => {
                 self.passed = self.passed.saturating_add(1);
                 self.is_next = false;
@@ -213,51 +183,78 @@ impl Reading {
     }
 
     /// Reads a line with an address.
-    fn read_row(&mut self, line: &[u8], front: &Front<'_>) -> Result<(), Fault> {
-        let address = front.address(self.is_octal)?;
+    fn read_row(&mut self, line: &[u8], number: u64, front: &Front<'_>) -> Result<(), Fault> {
+        let start = front.address(self.is_octal)?;
         front.read_bytes(line, &mut self.read)?;
         if let (true, Some(first)) = (front.may_be_swapped(&self.read), self.read.first()) {
             return Err(Fault::At(SWAPPED, first.column));
         }
         let len = self.read.len();
+        let row = Row {
+            start,
+            len,
+            end: start.saturating_add(len),
+            width: front.digits.len(),
+            decimal: front.decimal(),
+            is_logged: front.is_logged,
+        };
         if self.star.take().is_some() {
-            self.repeat(address, len == 0, front.column)?;
+            self.repeat(start, len == 0, front.column)?;
         }
-        if let Some(why) = self.wrong_step(address, len) {
+        if let Some(why) = self.wrong_step(&row) {
             return Err(Fault::At(why, front.column));
         }
-        if len == 0 {
-            return Ok(());
+        let is_other = self
+            .row
+            .is_some_and(|above| above.end != start && self.begins_with(above.end));
+        if front.is_blank && is_other {
+            return Err(Fault::At(LABEL, front.column));
         }
         for at in 0..len {
             if let Some(Spelled { byte, column }) = self.read.get(at).copied() {
-                self.set(address.saturating_add(at), Some(byte), column)?;
+                self.set(start.saturating_add(at), Some(byte), column)?;
             }
         }
-        self.widest = self.widest.max(len);
-        self.row = Some(Row {
-            start: address,
-            len,
-            end: address.saturating_add(len),
-        });
-        self.is_next = true;
+        if len > 0 {
+            let is_shorter = self.row.is_some_and(|above| row.width < above.width);
+            self.shorter = self.shorter.or(is_shorter.then_some(number));
+            self.widest = self.widest.max(len);
+            (self.row, self.is_next) = (Some(row), true);
+        }
         Ok(())
     }
 
-    /// Why a line with so many bytes may not have this address, if it may not: it goes on where the
-    /// last one ends, or, with bytes, at or before its start, or after a gap. Between two lines of
-    /// a long dump the gap has as many bytes as a line or a multiple, and otherwise at least two.
-    fn wrong_step(&self, address: usize, len: usize) -> Option<&'static str> {
-        let row = self.row?;
+    /// Whether the first group of bytes of a line is this address.
+    fn begins_with(&self, address: usize) -> bool {
+        let group = self
+            .read
+            .as_slice()
+            .chunk_by(|one, next| next.column == one.column.saturating_add(2))
+            .next();
+        let mut value = 0usize;
+        for spelled in group.unwrap_or(&[]) {
+            value = value.wrapping_mul(256) | usize::from(spelled.byte);
+        }
+        address > 0 && value == address
+    }
+
+    /// Why a row may not have its address, if it may not: it goes on where the last one ends, or,
+    /// with bytes, at or before its start, or after a gap. Between two lines of a long dump the gap
+    /// has as many bytes as a line or a multiple, and otherwise at least two.
+    fn wrong_step(&self, next: &Row) -> Option<&'static str> {
+        let (row, len) = (self.row?, next.len);
         let may_be_gap = |gap: usize| match self.widest {
             _ if !self.is_next => true,
             9.. => row.len == self.widest && gap.checked_rem(row.len) == Some(0),
             _ => gap > 1,
         };
-        match address.checked_sub(row.end) {
+        let follows = |start: usize| next.decimal == start.checked_add(row.len);
+        match next.start.checked_sub(row.end) {
             Some(0) => None,
-            Some(gap) if len > 0 => (!may_be_gap(gap)).then_some(GAP),
-            None if len > 0 && address <= row.start => None,
+            Some(gap) if len > 0 && may_be_gap(gap) => None,
+            None if len > 0 && next.start <= row.start => None,
+            _ if row.decimal.is_some_and(follows) => Some(DECIMAL),
+            Some(_) if len > 0 => Some(GAP),
             _ => Some(STEP),
         }
     }
@@ -331,23 +328,33 @@ impl Reading {
             image.push(byte)?;
             end = address.saturating_add(1);
         }
-        let (mut notes, passed) = (String::new(alloc), self.passed);
-        if passed > 0 {
-            write!(
-                notes,
-                "note: lines without an address, passed over: {passed}\n"
-            )?;
-        }
-        push_gaps(&mut notes, gaps.as_slice(), zeros)?;
-        Ok(Dump { at, image, notes })
+        let counts = (self.is_octal, self.passed, self.shorter, zeros);
+        let notes = notes_text(alloc, counts, gaps.as_slice())?;
+        Ok(Dump {
+            at,
+            image,
+            gaps,
+            notes,
+        })
     }
 }
 
 /// Whether a line may come between the lines of a dump and tells no bytes.
-fn is_heading(text: &[u8]) -> bool {
-    HEADINGS
-        .split("|")
-        .any(|heading| text.starts_with(heading.as_bytes()))
+fn is_passed(text: &[u8], row: Row) -> bool {
+    let mut headings = HEADINGS.split("|");
+    row.is_logged && !text.windows(3).any(|part| part == b":K:".as_slice())
+        || headings.any(|heading| text.starts_with(heading.as_bytes()))
+}
+
+/// Whether a line has digits and blanks where another has them, but for few columns.
+fn is_like(line: &[u8], other: &[u8]) -> bool {
+    let kind = |byte: &u8| (byte.is_ascii_hexdigit(), byte.is_ascii_whitespace());
+    let len = other.len().min(LIKE_COLUMNS);
+    let columns = line.iter().zip(other).take(len);
+    let same = columns
+        .filter(|(one, other)| kind(one) == kind(other))
+        .count();
+    len > 0 && same >= len.saturating_sub((len / 8).clamp(1, 3))
 }
 
 /// The addresses of the first and the last of the lines that are as the line above, of `LINES
@@ -361,22 +368,4 @@ fn lines_repeated(text: &[u8]) -> Option<(usize, usize)> {
     let (first, last) = lines.split_once("-").unwrap_or((lines, lines));
     let first = u32::from_str_radix(first, 16).ok()?;
     Some((first as usize, u32::from_str_radix(last, 16).ok()? as usize))
-}
-
-/// Adds the note on the gaps of a dump, which have so many zeros.
-fn push_gaps(out: &mut String, gaps: &[Area], zeros: u64) -> Result<(), AllocError> {
-    if gaps.is_empty() {
-        return Ok(());
-    }
-    write!(out, "note: zeros in gaps of the dump: {zeros}")?;
-    for (at, gap) in gaps.iter().take(GAPS_LISTED).enumerate() {
-        out.push_str(if at == 0 { ", at " } else { ", " })?;
-        let range = Range(*gap);
-        write!(out, "{range}")?;
-    }
-    out.push_str(if gaps.len() > GAPS_LISTED {
-        ", ..\n"
-    } else {
-        "\n"
-    })
 }

@@ -1,6 +1,9 @@
 //! A line of a dump of storage as text: an address, and the bytes from there on.
 
+use crate::dump_form::{Bytes, Front, MARKS, ends_word};
+use crate::dump_note::{APART, DIGIT, HALF, HIGH, OCTAL};
 use crate::numbers::spelled_byte;
+use crate::plain_text::{VARIANT, in_ebcdic};
 use ccw_core::STORAGE_LIMIT;
 use std::alloc::AllocError;
 use std::str;
@@ -20,16 +23,6 @@ impl From<AllocError> for Fault {
     }
 }
 
-const DIGIT: &str = "not a hexadecimal digit";
-
-const HALF: &str = "a byte has two digits";
-
-const APART: &str = "more than eight blanks before a byte, so others may be missing";
-
-const OCTAL: &str = "not an octal digit, but addresses of seven digits are octal";
-
-pub(crate) const HIGH: &str = "storage ends at FFFFFF";
-
 /// A byte of a line, and the column of its first digit.
 #[derive(Clone, Copy)]
 pub(crate) struct Spelled {
@@ -37,72 +30,12 @@ pub(crate) struct Spelled {
     pub(crate) column: usize,
 }
 
-/// The forms of a line: what comes before and after the address, how many columns are then left
-/// out, and how many have bytes. The first that fits counts. The first form is that of Hercules:
-/// `R:00000800:K:06=07000900 ..`. In the last, blanks come after the address, which may be octal,
-/// and words of two bytes may be swapped.
-const FORMS: [(&'static str, &'static str, usize, usize); 3] = [
-    ("R:", ":K:", 3, 36),
-    ("", ":", 0, usize::MAX),
-    ("", "", 0, usize::MAX),
-];
-
 /// How long a text column without a mark may be, with the blanks before it. It bounds how often a
 /// long line is looked at.
 const LONGEST_TEXT: usize = 2_048;
 
 /// How many blanks may come before a byte.
 const MOST_BLANKS: usize = 8;
-
-/// What a text column or a comment begins with.
-const MARKS: &[u8] = b"|*>;";
-
-/// The address of a line, and the columns of its bytes.
-#[derive(Clone, Copy)]
-pub(crate) struct Front<'a> {
-    digits: &'a [u8],
-    /// The column of the address.
-    pub(crate) column: usize,
-    /// Whether blanks alone come after the address.
-    is_blank: bool,
-    from: usize,
-    until: usize,
-}
-
-/// The address of a line, if the line has it in a form: three to eight digits, and not letters
-/// alone, which may be a word.
-fn front_by<'a>(line: &'a [u8], form: &(&str, &str, usize, usize)) -> Option<Front<'a>> {
-    let (before, after, skipped, width) = *form;
-    let text = line.trim_ascii_start().strip_prefix(before.as_bytes())?;
-    let end = text.iter().position(|byte| !byte.is_ascii_hexdigit());
-    let (digits, rest) = text.split_at(end.unwrap_or(text.len()));
-    let rest = rest.strip_prefix(after.as_bytes())?;
-    let is_word = digits.iter().all(|digit| !digit.is_ascii_digit());
-    if is_word || digits.len() < 3 || digits.len() > 8 {
-        return None;
-    }
-    let is_blank = after.is_empty();
-    let ends_word = |next: &u8| next.is_ascii_whitespace() || MARKS.contains(next);
-    if is_blank && !rest.first().is_none_or(ends_word) {
-        return None;
-    }
-    let from = line
-        .len()
-        .saturating_sub(rest.len())
-        .saturating_add(skipped);
-    Some(Front {
-        digits,
-        column: line.len().saturating_sub(text.len()),
-        is_blank,
-        from,
-        until: line.len().min(from.saturating_add(width)),
-    })
-}
-
-/// The address of a line, if the line has one.
-pub(crate) fn front_of(line: &[u8]) -> Option<Front<'_>> {
-    FORMS.iter().find_map(|form| front_by(line, form))
-}
 
 impl Front<'_> {
     /// Whether the address is as `od` writes it in octal.
@@ -124,42 +57,41 @@ impl Front<'_> {
         }
     }
 
+    /// The number that the digits of the address are in decimal.
+    pub(crate) fn decimal(&self) -> Option<usize> {
+        str::from_utf8(self.digits).ok()?.parse().ok()
+    }
+
     /// Reads the bytes of the line in place of those of the list.
     pub(crate) fn read_bytes(&self, line: &[u8], bytes: &mut Vec<Spelled>) -> Result<(), Fault> {
         bytes.truncate(0);
-        let until = self.until.min(line.len());
+        let line = match self.bytes {
+            Bytes::In(width) => line.get(..self.from.saturating_add(width)).unwrap_or(line),
+            _ => line,
+        };
         // Behind the last byte.
         let mut next = self.from;
-        for column in self.from..until {
+        for column in self.from..line.len() {
             if column < next {
                 continue;
             }
-            if line[column].is_ascii_hexdigit() {
-                if self.is_apart(column, bytes.last()) {
+            let is_group = column > next || bytes.is_empty();
+            if let Some((byte, len)) = byte_at(line, column, is_group)? {
+                if column.saturating_sub(next) > MOST_BLANKS {
                     return Err(Fault::At(APART, column));
                 }
-                next = column.saturating_add(2);
-                let digits = line[..until].get(column..next);
-                let byte = digits
-                    .and_then(spelled_byte)
-                    .ok_or(Fault::At(HALF, column))?;
+                next = column.saturating_add(len);
                 bytes.extend_from_slice(&[Spelled { byte, column }])?;
             } else if ends_at(line, column, bytes.as_slice()) {
-                return Ok(());
+                break;
             } else if !line[column].is_ascii_whitespace() {
                 return Err(Fault::At(DIGIT, column));
             }
         }
+        if self.bytes == Bytes::Keyed && bytes.len() % 4 == 1 {
+            bytes.truncate(bytes.len() - 1);
+        }
         Ok(())
-    }
-
-    /// Whether too many blanks come before a byte at a column, after the last byte or the address.
-    fn is_apart(&self, column: usize, last: Option<&Spelled>) -> bool {
-        let end = match last {
-            Some(last) => last.column.saturating_add(2),
-            None => self.from,
-        };
-        column.saturating_sub(end) > MOST_BLANKS
     }
 
     /// Whether the bytes may be swapped: they are in words of two, and more than two.
@@ -179,6 +111,44 @@ fn is_octal_digit(digit: &u8) -> bool {
     matches!(*digit, b'0'..=b'7')
 }
 
+/// The byte at a column, if one is there, and how many columns it takes: two digits, or at the
+/// begin of a group two digits after `0x`, or the letters of flags.
+fn byte_at(line: &[u8], column: usize, is_group: bool) -> Result<Option<(u8, usize)>, Fault> {
+    let rest = line.get(column..).unwrap_or(&[]);
+    if is_group {
+        if let Some(flags) = flags_of(rest) {
+            return Ok(Some((flags, 6)));
+        }
+        let digits = rest.strip_prefix(b"0x").and_then(|digits| digits.get(..2));
+        if let Some(byte) = digits.and_then(spelled_byte) {
+            return Ok(Some((byte, 4)));
+        }
+    }
+    match rest {
+        [first, ..] if !first.is_ascii_hexdigit() => Ok(None),
+        [_, second, ..] if second.is_ascii_hexdigit() => {
+            Ok(rest.get(..2).and_then(spelled_byte).map(|byte| (byte, 2)))
+        }
+        [_, second, ..] if !ends_word(second) => { Err(Fault::At(DIGIT, column.saturating_add(1))) }
+        _ => Err(Fault::At(HALF, column)),
+    }
+}
+
+/// The flags whose letters come first, as `chanv list` writes them: `-C---0`.
+fn flags_of(text: &[u8]) -> Option<u8> {
+    let letters: &[u8; 6] = text.first_chunk()?;
+    let mut flags = 0u8;
+    for (letter, found) in b"DCLSP".iter().zip(letters) {
+        let bit = u8::from(letter == found);
+        if bit == 0 && *found != b'-' {
+            return None;
+        }
+        flags = flags.wrapping_mul(2) | bit;
+    }
+    let low = letters[5];
+    is_octal_digit(&low).then_some(flags.wrapping_mul(8) | (low & 7))
+}
+
 /// Whether the bytes of a line end at a column. Blanks after the first of a run aren't asked again,
 /// since a text column begins with all blanks before it.
 fn ends_at(line: &[u8], column: usize, bytes: &[Spelled]) -> bool {
@@ -187,20 +157,31 @@ fn ends_at(line: &[u8], column: usize, bytes: &[Spelled]) -> bool {
     let is_marked = rest.first().is_some_and(|byte| MARKS.contains(byte));
     let is_short = rest.len() <= LONGEST_TEXT && bytes.len() <= LONGEST_TEXT;
     let is_asked = before.last().is_some_and(|byte| byte.is_ascii_whitespace());
-    is_marked || is_short && !is_asked && rest.starts_with(b"  ") && is_text_of(rest, bytes)
+    let may_be_text = is_short && !is_asked && rest.starts_with(b"  ");
+    is_marked || may_be_text && (is_text_of(rest, bytes, false) || is_text_of(rest, bytes, true))
 }
 
-/// Whether what is left of a line is two blanks or more and then the text of its bytes, of which
-/// blanks at the end may have gone.
-fn is_text_of(rest: &[u8], bytes: &[Spelled]) -> bool {
+/// Whether what is left of a line is two blanks or more and then the text of its bytes, in ASCII or
+/// in EBCDIC, of which blanks at the end may have gone.
+fn is_text_of(rest: &[u8], bytes: &[Spelled], is_ebcdic: bool) -> bool {
     let text = rest.trim_ascii();
     let blanks = rest.trim_ascii_end().len().saturating_sub(text.len());
-    let shown = bytes.iter().map(|spelled| match spelled.byte {
-        byte @ b' '..=b'~' => byte,
-        _ => b'.',
-    });
-    let mut shown = shown.skip_while(|byte| *byte == b' ');
+    let shown = bytes
+        .iter()
+        .map(|spelled| shown_as(spelled.byte, is_ebcdic));
+    let mut shown = shown.skip_while(|shown| *shown == b' ');
     blanks > 1
-        && text.iter().all(|byte| shown.next() == Some(*byte))
+        && text.iter().all(|byte| match shown.next() {
+            Some(VARIANT) if is_ebcdic => !byte.is_ascii_alphanumeric(),
+            shown => shown == Some(*byte),
+        })
         && shown.all(|byte| byte == b' ')
+}
+
+/// The character of a byte in a text column.
+fn shown_as(byte: u8, is_ebcdic: bool) -> u8 {
+    match if is_ebcdic { in_ebcdic(byte) } else { byte } {
+        shown @ b' '..=b'~' => shown,
+        _ => b'.',
+    }
 }

@@ -1,7 +1,8 @@
 //! How to cure a no: the lines of help after its explanation. Tests hold the texts.
 
+use crate::led_to::led_to;
 use ccw_core::Area;
-use chan_walk::{Entry, Evidence, Job, Outside, Place, Survey};
+use chan_walk::{Entry, Evidence, Job, Outside, Place, Setting, Survey, setting_at};
 use chan_why::{Findings, Witness};
 use ckd_core::{Command, Device, FileMask, Kind, lookup};
 use std::alloc::{AllocError, Global};
@@ -17,6 +18,7 @@ pub(crate) fn help_text(alloc: Global, findings: &Findings) -> Result<String, Al
     let mut text = String::new(alloc);
     if let Some(offence) = findings.offence() {
         push_cure(&mut text, findings.job, &findings.witness)?;
+        push_cut(alloc, &mut text, findings)?;
         let word = offence.reason.word();
         write!(text, "help: chanv explain {word}\n")?;
     }
@@ -31,6 +33,7 @@ fn push_cure(out: &mut String, job: &Job, witness: &Witness) -> Result<(), Alloc
         Some(Evidence::SeekOutside { outside, .. }) => push_extent(out, job.device, outside),
         Some(Evidence::Inhibited { mask, code }) => push_command(out, mask, lookup(code)),
         Some(Evidence::WeakensMask { byte, mask }) => push_mask(out, mask, FileMask::new(byte)),
+        Some(Evidence::ZeroCount) => push_chain(out, job, witness.path.as_slice()),
         Some(Evidence::ChangesCcw { ccw, .. }) => {
             write!(out, "{ELSEWHERE}the CCW at {ccw:06X} stays\n")?;
             push_parting(out, job, witness)
@@ -38,6 +41,24 @@ fn push_cure(out: &mut String, job: &Job, witness: &Witness) -> Result<(), Alloc
         Some(Evidence::ChangesArgument { taker, .. }) => {
             write!(out, "{ELSEWHERE}the argument of {taker:06X} stays\n")?;
             push_parting(out, job, witness)
+        }
+        _ => Ok(()),
+    }
+}
+
+/// Adds which CCW chains data to the end of a path, if one does.
+fn push_chain(out: &mut String, job: &Job, path: &[Place]) -> Result<(), AllocError> {
+    let Some((end, before)) = path.split_last() else {
+        return Ok(());
+    };
+    match last_ccw(job, before) {
+        Some(from) if end.entered != Entry::Fresh => {
+            let address = from.address;
+            write!(
+                out,
+                "help: {address:06X} chains data to here; switch chain data off there if its data \
+                 ends with it\n"
+            )
         }
         _ => Ok(()),
     }
@@ -136,15 +157,88 @@ fn parting(job: &Job, path: &[Place], second_path: &[Place]) -> Option<(u32, u32
     Some((last.address, user.address))
 }
 
+/// Adds how to judge a program in two parts, if the argument that is stored over is that of a seek
+/// that has been carried out: the first part ends with the seek.
+fn push_cut(alloc: Global, out: &mut String, findings: &Findings) -> Result<(), AllocError> {
+    let Some(Evidence::ChangesArgument { taker, .. }) = findings.witness.evidence else {
+        return Ok(());
+    };
+    let path = findings.witness.path.as_slice();
+    let (Some((seek, last, first)), Some(changing)) = (
+        cut_behind(findings.job, path, taker),
+        path.last(),
+    ) else {
+        return Ok(());
+    };
+    let survey = &findings.survey;
+    let begin = path.first().copied().unwrap_or(seek);
+    if leads_to(alloc, survey, *changing, taker, None)?
+        || leads_to(alloc, survey, begin, changing.address, Some(last))?
+    {
+        return Ok(());
+    }
+    write!(
+        out,
+        "help: {taker:06X} has been carried out by then: end the program at {last:06X} by \
+         switching off chain command, run that part, and then judge the part from {first:06X} on\n"
+    )
+}
+
+/// The place of a path at which the seek at an address begins before the path's end; and where the
+/// path can be cut behind it: the addresses of the last CCW of the seek, and of the next command.
+fn cut_behind(job: &Job, path: &[Place], taker: u32) -> Option<(Place, u32, u32)> {
+    let (_, before) = path.split_last()?;
+    let is_seek = |place: &Place| place.address == taker && place.entered == Entry::Fresh;
+    let at = before.iter().position(is_seek)?;
+    let seek = *before.get(at)?;
+    let Some(Setting::Arm(_)) = setting_at(job, seek) else {
+        return None;
+    };
+    let is_command = |place: &Place| {
+        let ccw = job.storage.ccw_at(place.address);
+        place.entered == Entry::Fresh && ccw.is_some_and(|ccw| !ccw.is_transfer())
+    };
+    let behind = path.get(at.saturating_add(1)..)?;
+    let len = behind.iter().position(is_command)?;
+    let part = path.get(..at.saturating_add(1).saturating_add(len))?;
+    Some((seek, last_ccw(job, part)?.address, behind.get(len)?.address))
+}
+
+/// Whether a place leads to a CCW, also if no place at another address, if one is given, leads on.
+fn leads_to(
+    alloc: Global,
+    survey: &Survey,
+    from: Place,
+    to: u32,
+    without: Option<u32>,
+) -> Result<bool, AllocError> {
+    if Some(from.address) == without {
+        return Ok(false);
+    }
+    let mut is_end = Vec::new(alloc);
+    for look in survey.looks() {
+        is_end.push(Some(look.place().address) == without)?;
+    }
+    let is_led = led_to(alloc, survey, &[from], is_end.as_slice())?;
+    let mut looks = survey.looks().iter().zip(is_led.iter());
+    Ok(looks.any(|(look, led)| *led && look.place().address == to))
+}
+
+/// The last of some places that isn't a transfer.
+fn last_ccw(job: &Job, places: &[Place]) -> Option<Place> {
+    let is_ccw = |place: &Place| {
+        let ccw = job.storage.ccw_at(place.address);
+        ccw.is_some_and(|ccw| !ccw.is_transfer())
+    };
+    let at = places.iter().rposition(is_ccw)?;
+    places.get(at).copied()
+}
+
 /// The last of some places that isn't a transfer, unless it is a search's.
 fn last_command(job: &Job, places: &[Place]) -> Option<Place> {
-    for place in places.iter().rev() {
-        let ccw = job.storage.ccw_at(place.address)?;
-        if !ccw.is_transfer() {
-            return (!searches(*place, ccw.command())).then_some(*place);
-        }
-    }
-    None
+    let place = last_ccw(job, places)?;
+    let ccw = job.storage.ccw_at(place.address)?;
+    (!searches(place, ccw.command())).then_some(place)
 }
 
 /// Whether a place belongs to a search.

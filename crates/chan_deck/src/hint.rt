@@ -1,6 +1,7 @@
 //! The hint for the line at which a text is refused, which tests hold.
 
 use crate::cause::Cause;
+use crate::dump_form::is_dump_line;
 use crate::item::Item;
 use crate::keyword::{FORMS, Form, begun_as, forms_behind};
 use crate::lines::next_line;
@@ -8,6 +9,9 @@ use crate::version::VersionNumber;
 use ccw_core::STORAGE_LIMIT;
 use std::alloc::{AllocError, Global};
 use std::fmt::Write as _;
+
+/// In how many first lines a dump is looked for.
+const SEARCHED: usize = 64;
 
 /// How many characters of a line are shown.
 pub(crate) const SHOWN: usize = 60;
@@ -360,6 +364,10 @@ pub fn hint_text(
     push_caret(&mut out, &spot, cause)?;
     out.push_str("expected ")?;
     push_expected(&mut out, &spot, cause)?;
+    let mut lines = text.split(|byte| *byte == b'\n').take(SEARCHED);
+    if matches!(cause, Cause::Header) && lines.any(is_dump_line) {
+        out.push_str("; this seems to be a dump, of which chanv deck makes a deck")?;
+    }
     out.push_str("\n")?;
     Ok(out.into_bytes())
 }

@@ -2,9 +2,11 @@
 
 use crate::help::unseen_note;
 use crate::listing::way_word;
+use crate::own_mask::own_mask_note;
 use ccw_core::{Area, Storage};
-use chan_walk::{Entry, Job, Limit, Look, Place, Reason, Verdict, look_at};
+use chan_walk::{Entry, Job, Limit, Look, Place, Reason, Survey, Verdict, look_at};
 use chan_why::{Findings, Notes, seems_exchanged};
+use ckd_core::Kind;
 use std::alloc::{AllocError, Global};
 use std::fmt::Write;
 
@@ -21,9 +23,9 @@ const MACHINE_STORES: &str = " is where the machine stores PSWs, the CSW or the 
 const HANGS: &str = " on the program never ends by itself: \
     only an error, an end of file, an incorrect length or a Halt I/O stops it";
 
-/// The note on a CCW with the flag for a program-controlled interruption.
+/// The note on CCWs with the flag for a program-controlled interruption.
 const INTERRUPTS: &str =
-    " interrupts: the processor may then change any byte not listed as keep by chanv needs";
+    ": the processor may then change any byte not listed as keep by chanv needs";
 
 /// The note on a CCW that moves no data and has chain data on.
 const ENDS_THERE: &str = " ends the program: chain data is on, and the command moves no data";
@@ -93,6 +95,21 @@ fn push_ccws(out: &mut String, what: &str, addresses: &[u32]) -> Result<(), Allo
     push_more(out, addresses.len())
 }
 
+/// Adds the note on the CCWs at some addresses that interrupt, of which the first is named.
+fn push_interrupting(out: &mut String, addresses: &[u32]) -> Result<(), AllocError> {
+    match addresses {
+        [] => Ok(()),
+        [first] => write!(out, "note: {first:06X} interrupts{INTERRUPTS}\n"),
+        [first, more @ ..] => {
+            let more = more.len();
+            write!(
+                out,
+                "note: {first:06X} and {more} more interrupt{INTERRUPTS}\n"
+            )
+        }
+    }
+}
+
 /// Adds the notes on the CCWs at some addresses of storage whose byte 5 isn't zero, with that byte.
 fn push_spare(out: &mut String, storage: Storage<'_>, addresses: &[u32]) -> Result<(), AllocError> {
     for address in addresses.iter().take(MOST) {
@@ -104,13 +121,26 @@ fn push_spare(out: &mut String, storage: Storage<'_>, addresses: &[u32]) -> Resu
     push_more(out, addresses.len())
 }
 
+/// Whether areas, one behind the other, are all of a storage of this length.
+fn are_all(areas: &[Area], len: u32) -> bool {
+    let mut end = 0u32;
+    for area in areas {
+        if area.start != end {
+            return false;
+        }
+        end = end.saturating_add(area.len);
+    }
+    end >= len
+}
+
 /// The notes on a job with this storage as text, in this order:
 ///
-/// - the lent areas that reach past storage, and those that no reachable CCW uses;
+/// - the lent areas that reach past storage, and those that no reachable CCW uses, unless they are
+///   all of storage, as under an open job;
 /// - the kept areas that the machine itself stores into;
 /// - the first place from which on the program never ends by itself;
-/// - the CCWs that ask for an interruption, and those at which the program ends though chain data
-///   is on;
+/// - the CCWs that ask for an interruption, in one note, and those at which the program ends though
+///   chain data is on;
 /// - the CCWs whose byte 5 isn't zero.
 ///
 /// Each kind has a line for each of its first hundred notes, and one line that counts the others.
@@ -131,14 +161,16 @@ fn notes_text(
         ("keep", MACHINE_STORES, &notes.machine_stores),
     ];
     for (word, what, areas) in kinds {
-        push_areas(alloc, &mut text, word, what, areas)?;
+        if what != UNUSED || !are_all(areas, storage.len()) {
+            push_areas(alloc, &mut text, word, what, areas)?;
+        }
     }
     if let Some(place) = hang {
         // The note says the way in, since by another the same CCW may lead to an end.
         let (address, way) = (place.address, way_word(place.entered));
         write!(text, "note: from {address:06X} (entered {way}){HANGS}\n")?;
     }
-    push_ccws(&mut text, INTERRUPTS, &notes.interrupting)?;
+    push_interrupting(&mut text, &notes.interrupting)?;
     push_ccws(&mut text, ENDS_THERE, &notes.ending)?;
     push_spare(&mut text, storage, &notes.spare)?;
     Ok(text)
@@ -146,7 +178,7 @@ fn notes_text(
 
 /// The note on an image of storage whose ends may be wrong: how long storage is, and which options
 /// say so. An error means that an allocation failed.
-pub(crate) fn storage_note(alloc: Global, size: u32) -> Result<String, AllocError> {
+pub fn storage_note(alloc: Global, size: u32) -> Result<String, AllocError> {
     format!(in alloc; "note: storage has {size:07X}{STORAGE_ENDS}")
 }
 
@@ -174,6 +206,15 @@ pub fn room_note(alloc: Global, at: u32, size: u32) -> Result<String, AllocError
     }
 }
 
+/// The notes on searches that are tried once, on commands that the program's own mask inhibits, and
+/// on what stands behind the program. An error means that an allocation failed.
+fn rest_notes(alloc: Global, job: &Job, survey: &Survey) -> Result<String, AllocError> {
+    let once = once_note(alloc, job, survey.looks())?;
+    let inhibited = own_mask_note(alloc, survey)?;
+    let behind = behind_note(alloc, job, survey.looks())?;
+    format!(in alloc; "{once}{inhibited}{behind}")
+}
+
 /// The note on what stands right behind the last of a program's CCWs, if it looks like a CCW to
 /// which no run comes: a well-formed one of a known command, or a transfer into the program. An
 /// error means that an allocation failed.
@@ -184,6 +225,44 @@ fn behind_note(alloc: Global, job: &Job, looks: &[Look]) -> Result<String, Alloc
         return Ok(String::new(alloc));
     }
     format!(in alloc; "note: {address:06X} looks like a CCW, but no run comes there\n")
+}
+
+/// The note on the searches of a program that are tried once, of which the first is named: no
+/// transfer follows that may repeat them. An error means that an allocation failed.
+fn once_note(alloc: Global, job: &Job, looks: &[Look]) -> Result<String, AllocError> {
+    let (mut first, mut last, mut count) = (None, None, 0usize);
+    for look in looks {
+        let address = look.place().address;
+        if last != Some(address) && is_search_once(job, look) {
+            first = first.or(Some(address));
+            last = Some(address);
+            count = count.saturating_add(1);
+        }
+    }
+    let more = count.saturating_sub(1);
+    match first {
+        None => Ok(String::new(alloc)),
+        Some(address) if more == 0 => format!(in alloc;
+            "note: {address:06X} searches once: no transfer right behind it repeats it\n"
+        ),
+        Some(address) => format!(in alloc;
+            "note: {address:06X} and {more} more search once: no transfer right behind repeats \
+             them\n"
+        ),
+    }
+}
+
+/// Whether a search begins at a place, in a CCW alone, and no transfer is tried if it fails.
+fn is_search_once(job: &Job, look: &Look) -> bool {
+    let is_search = look
+        .command()
+        .is_some_and(|command| command.kind() == Kind::Search);
+    let behind = job.storage.ccw_at(look.place().address.saturating_add(8));
+    let is_followed = behind.is_some_and(|ccw| ccw.is_transfer());
+    is_search
+        && look.ccw().is_some_and(|ccw| {
+            !ccw.chains_data() && !(ccw.chains_command() && is_followed)
+        })
 }
 
 /// Looks at a place as if nothing were lent. It serves to ask about the reasons that come before
@@ -245,7 +324,7 @@ pub(crate) fn notes_on(alloc: Global, findings: &Findings) -> Result<String, All
         }
         (Verdict::Yes, Some(open)) => (
             notes_text(alloc, job.storage, &open.notes, open.hang)?,
-            behind_note(alloc, job, survey.looks())?,
+            rest_notes(alloc, job, survey)?,
         ),
         (Verdict::Yes, None) => return Err(AllocError),
     };

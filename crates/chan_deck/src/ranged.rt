@@ -13,9 +13,10 @@ use std::alloc::{AllocError, Global};
 
 /// The listing of a range of a job's storage, and the line of the job's verdict: a row for each
 /// doubleword that has a byte in the range, up to the end of storage. Where one chains data, the
-/// next counts as a part of its chain; any other counts as a CCW that begins an operation. The row
-/// of a CCW with a fault of its own is marked, and its cause follows; so is that of a transfer that
-/// leads to where no CCW can be. An error means that an allocation failed.
+/// next counts as a part of its chain, also where the chain begins before the range; any other
+/// counts as a CCW that begins an operation. The row of a CCW with a fault of its own is marked,
+/// and its cause follows; so is that of a transfer that leads to where no CCW can be. An error
+/// means that an allocation failed.
 pub fn range_text(
     alloc: Global,
     job: &Job,
@@ -23,22 +24,34 @@ pub fn range_text(
     verdict: Verdict,
 ) -> Result<String, AllocError> {
     let mut text = String::new(alloc);
-    let end = range.start.saturating_add(range.len).min(job.storage.len());
+    let end = match range.len {
+        0 => 0,
+        len => range.start.saturating_add(len).min(job.storage.len()),
+    };
     let lent = Lent::new(alloc, job)?;
-    let mut entered = Entry::Fresh;
-    for number in range.start / 8..end.div_ceil(8) {
+    let (first, mut entered) = (range.start / 8, Entry::Fresh);
+    let before = (0..first).rev().find(|number| !chains_data(job, *number));
+    for number in before.map_or(0, |number| number.saturating_add(1))..end.div_ceil(8) {
         let place = Place {
             address: number.saturating_mul(8),
             entered,
             after_transfer: false,
         };
         let look = look_among(job, &lent, place);
-        push_look(alloc, &mut text, job, &look)?;
+        if number >= first {
+            push_look(alloc, &mut text, job, &look)?;
+        }
         entered = entry_behind(&look);
     }
     push_verdict(&mut text, verdict)?;
     text.push('\n')?;
     Ok(text)
+}
+
+/// Whether the doubleword of this number chains data to the next.
+fn chains_data(job: &Job, number: u32) -> bool {
+    let ccw = job.storage.ccw_at(number.saturating_mul(8));
+    ccw.is_some_and(|ccw| ccw.chains_data() && !ccw.is_transfer())
 }
 
 /// Adds the row of what stands at a place, with what is set there, and the cause if it is a fault.

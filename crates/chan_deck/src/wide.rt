@@ -93,7 +93,7 @@ fn push_deed(out: &mut String, shown: &Shown, looks: &[Look], at: usize) -> Resu
             // A transfer repeats the search.
             let stored_by = &[];
             if row_at(Scene { looks, stored_by }, at).is_some_and(|row| row.until.is_some()) {
-                out.push_str(" until found")?;
+                push_part(out, "until found")?;
             }
             shown.push_compared(out, look)?;
         }

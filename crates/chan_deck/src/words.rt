@@ -39,7 +39,8 @@ which chanv doesn't cover.",
     "zero-count: a count of zero
 The CCW's count is zero, which the channel refuses.
 Set it to 1 or more. Every CCW except a transfer in channel needs a count, even
-a No Operation, which moves no data.",
+a No Operation, which moves no data. If a data chain leads there though there is
+no CCW, switch off chain data in the CCW before it, with which the data ends.",
     "data-outside: a data range that leaves main storage
 The CCW's data address plus its count is more than the length of main storage.
 If the image lacks buffers at its end, judge a larger storage: a line `storage`

@@ -1,19 +1,20 @@
 //! What may be wrong with an image if no job will do for its program. Tests hold the texts.
 
 use crate::note_lines::storage_note;
-use ccw_core::{Area, STORAGE_LIMIT};
+use crate::unread::ImageBytes;
+use ccw_core::STORAGE_LIMIT;
 use chan_walk::{Evidence, Job, Reason, Verdict, fault_at, first_place};
 use chan_why::{Findings, Witness};
 use std::alloc::{AllocError, Global};
 
 /// The notes on a no under the open job of a program in an image: that another size of storage, or
-/// another address of the image, may cure it; that something on the path lies outside the bytes
-/// that were read; and that the start may have been given in decimal. `read` is what was read of
-/// the image. An error means that an allocation failed.
+/// another address of the image, may cure it; that the image, which holds the bytes of `read`,
+/// lacks something on the path; and that the start may have been given in decimal. An error means
+/// that an allocation failed.
 pub(crate) fn image_faults(
     alloc: Global,
     findings: &Findings,
-    read: Area,
+    read: &ImageBytes<'_>,
 ) -> Result<String, AllocError> {
     let (open_job, verdict) = (findings.job, findings.survey.verdict());
     let ends = ends_note(alloc, open_job, verdict)?;
@@ -28,12 +29,11 @@ fn outside_note(
     alloc: Global,
     job: &Job,
     witness: &Witness,
-    read: Area,
+    read: &ImageBytes<'_>,
 ) -> Result<String, AllocError> {
-    let mut path = witness.path.iter().map(|place| place.address);
-    let unread_ccw = path.find(|address| {
-        job.storage.ccw_at(*address).is_some() && !has_range(read, *address, 8)
-    });
+    let path = witness.path.iter().map(|place| place.address);
+    let mut ccws = path.filter(|address| job.storage.ccw_at(*address).is_some());
+    let unread_ccw = ccws.find_map(|address| Some((address, lack_in_ccw(read, address)?)));
     let argument = match witness.evidence {
         Some(Evidence::ShortSeek { given }) => Some(given),
         Some(Evidence::SeekOutside { argument, .. }) => argument,
@@ -41,20 +41,19 @@ fn outside_note(
     };
     let unread_byte = argument.and_then(|given| {
         let mut addresses = given.addresses().iter().copied();
-        addresses.find(|address| !has_range(read, *address, 1))
+        addresses.find_map(|address| Some((address, read.lack_at(address)?)))
     });
     match unread_ccw.or(unread_byte) {
-        Some(address) => format!(in alloc;
-            "note: {address:06X} lies outside the image, so it is zero here\n"
+        Some((address, lack)) => format!(in alloc;
+            "note: {address:06X} lies {lack}, so it is zero here\n"
         ),
         None => Ok(String::new(alloc)),
     }
 }
 
-/// Whether an area has so many bytes from an address on.
-fn has_range(area: Area, start: u32, len: u64) -> bool {
-    let end = u64::from(area.start) + u64::from(area.len);
-    area.start <= start && u64::from(start).saturating_add(len) <= end
+/// Where the first byte is that an image doesn't hold of the CCW at an address, if it lacks one.
+fn lack_in_ccw(read: &ImageBytes<'_>, address: u32) -> Option<&'static str> {
+    (0..8).find_map(|offset| read.lack_at(address.saturating_add(offset)))
 }
 
 /// The note that the address of the start was read in hexadecimal, if no command is there and its
@@ -63,7 +62,7 @@ fn start_note(
     alloc: Global,
     job: &Job,
     verdict: Verdict,
-    read: Area,
+    read: &ImageBytes<'_>,
 ) -> Result<String, AllocError> {
     let start = job.start;
     let digits = format!(in alloc; "{start:X}")?;
@@ -72,7 +71,7 @@ fn start_note(
             if address == start
                 && reason.is_no_command()
                 && decimal != start
-                && has_range(read, decimal, 8)
+                && lack_in_ccw(read, decimal).is_none()
                 && is_faultless_at(job, decimal) => {
             format!(in alloc;
                 "note: --start {digits} is hexadecimal; decimal {digits} is --start {decimal:X}\n"

@@ -1,5 +1,5 @@
 -- What a program keeps lies in storage, and how many bytes that is.
-use Rattle.chan_needs.proofs.Names.{[], All, All-cons, All-head, All-nil, All-tail, and_parts, ap, Area, AreNeeds, arith, bytes_in, ccw_of, clear_check, data_in_storage, end_of, get_or, Has, inl, inr, is_fresh, is_inside, IsClear, IsGuarded, IsInside, IsMerged, Job, leb-true, length, length-append, lies_in, lies_in-first, lies_in-rest, List, Listed, mask_is_no_transfer, open_job, Place, refl, Stands, storage_of, subst, suc, take, take_all, take_more, total_len, true, zero, ℕ, ◌++◌, ◌+◌, ◌-◌, ◌<◌, ◌∙◌, ◌∷◌, ◌≡◌, ◌≤◌, ◌⊎◌}
+use Rattle.chan_needs.proofs.Names.{[], All, All-cons, All-head, All-nil, All-tail, and_parts, ap, AreExactly, IsKept, Area, arith, bytes_in, ccw_of, clear_check, data_in_storage, end_of, get_or, Has, inl, inr, is_fresh, is_inside, IsClear, IsGuarded, IsInside, IsMerged, Job, leb-true, length, length-append, lies_in, lies_in-first, lies_in-rest, List, mask_is_no_transfer, open_job, Place, refl, Stands, storage_of, subst, suc, take, take_all, take_more, total_len, true, zero, ℕ, ◌++◌, ◌+◌, ◌-◌, ◌<◌, ◌∙◌, ◌∷◌, ◌≡◌, ◌≤◌, ◌⊎◌}
 use Rattle.chan_walk.specs.Argument.{argument_addresses}
 use Rattle.chan_walk.specs.Guarded.{IsMaskByte, IsSeekByte}
 use Rattle.chan_walk.proofs.Algorithms.Following.{argument_below}
@@ -49,8 +49,8 @@ merged_inside s (a ∷ areas) m below =
     let last : a.start + (a.len - 1) < length s = below _ (lies_in-first a areas _ (omega (arith, some), omega (arith, some))) in
     All-cons (IsInside s) a areas (omega (arith, last, some)) (merged_inside s areas m.2 (λ b h. below b (lies_in-rest a areas b h)))
 
-pub keep_inside : (j : Job) (n : Listed) → AreNeeds j n → All (IsInside (storage_of j)) n.keep
-keep_inside j n needs = merged_inside (storage_of j) n.keep needs.keep.merged (λ b h. guarded_inside (open_job j) b ((needs.keep.bytes b).0 h))
+pub kept_inside : (j : Job) (areas : List Area) → AreExactly (IsKept j) areas → All (IsInside (storage_of j)) areas
+kept_inside j areas are = merged_inside (storage_of j) areas are.merged (λ b h. guarded_inside (open_job j) b ((are.bytes b).0 h))
 
 -- ---- how many bytes areas have together
 

@@ -1,6 +1,8 @@
 -- Rows that stay in the table. While a write that lasts is there, no program starts that keeps a byte of its area; while bytes that last
 -- are there, none that stores over them, and no step changes them.
-use Rattle.chan_needs.proofs.Names.{[], All, All-cons, All-head, All-nil, All-tail, Area, AreOfOneProgram, both_ways, false, Flight, Has, inl, inr, IsByteOf, IsCompatibleWith, IsSameIn, IsSome, IsSupervised, KeepsNone, lies_in, lies_in-first, lies_in-nil, List, MayStoreOver, None, Option, ProgramStartsAt, ProgramWaits, ProgramWaitsAt, refl, Remembered, rules, Some, subst, Supervision, sym, true, ℕ, ◌∙◌, ◌∷◌, ◌≡◌, ◌⊎◌}
+use Rattle.chan_needs.proofs.Names.{[], All, All-cons, All-head, All-nil, All-tail, Area, AreOfOneProgram, arith, both_ways, false, Flight, Has, inl, inr, IsByteOf, IsCompatibleWith, IsSameIn, IsSome, IsSupervised, KeepsNone, lies_in, lies_in-first, lies_in-nil, List, MayStoreOver, None, Option, ProgramStartsAt, ProgramWaits, ProgramWaitsAt, refl, Remembered, rules, Some, subst, Supervision, sym, true, ℕ, ◌∙◌, ◌∷◌, ◌≡◌, ◌⊎◌}
+use Rattle.chan_needs.specs.Row.{besides}
+use Rattle.std.proofs.lemmas.Bool.{ne_eqb}
 use Rattle.chan_needs.specs.Supervised.{GoesOnBeside, IsLastingKeep, IsLastingWrite, IsSparedBy, IsUntouchedBy, LastingKeeps, LastingWrites}
 use Rattle.chan_needs.proofs.Compatible.{needed_over}
 use Rattle.chan_needs.proofs.History.{acts_apart, all_sound, stays}
@@ -42,17 +44,21 @@ module _ (P : Remembered → Type 0) (f : Remembered) (v w : Supervision) (besid
   stays_beside (inl (k, inr s, others)) i p some noted = each i p noted some k (λ e there. before k p s.there (sym (s.noted there) ∙ e)) (others i)
   stays_beside (inr r) i p some noted = rests i p (r.2 i) some noted
 
--- ---- a row with one area alone
+-- ---- the areas of a row
 
-one_area : (xs : List Area) (area : Area) → xs ≡ area ∷ [] → (b : ℕ) → IsByteOf area b → lies_in xs b ≡ true
-one_area xs area e b h = rw e (lies_in-first area [] b h)
+-- a byte of an area beside a list lies in both together: the area isn't empty
+one_area : (area : Area) (xs : List Area) (b : ℕ) → IsByteOf area b → lies_in (besides area xs) b ≡ true
+one_area area xs b h = rw (ne_eqb area.len 0 (λ e. omega (arith, e, h.0, h.1))) (lies_in-first area xs b h)
 
-no_area : (xs : List Area) → xs ≡ [] → (b : ℕ) → lies_in xs b ≡ false
-no_area xs e b = rw e (lies_in-nil b)
+no_area : (area : Area) (xs : List Area) → xs ≡ [] → area.len ≡ 0 → (b : ℕ) → lies_in (besides area xs) b ≡ false
+no_area area xs none empty b = rw (empty, none) (lies_in-nil b)
 
 pub lasting_writes : LastingWrites
 lasting_writes = record {
-  stands = λ f area store keep. record { stores = one_area _ area store; keeps = no_area _ keep };
+  stands = λ r none empty. record {
+    stores = one_area r.stores r.program.needs.store.now;
+    keeps = no_area r.keeps r.program.needs.keep.now none empty;
+  };
   begins = λ area v fs lists none i p some noted. let n = lists i p noted in at_number (KeepsNone area) fs n.0 p none n.1;
   stays = λ f area v w write. stays_beside (KeepsNone area) f v w (λ p h b k. h.other_spares b (write.stores b k.1, k.0));
   check_write = λ f area v fs t write spared lists only written.
@@ -95,7 +101,10 @@ module _ (f : Remembered) (area : Area) (v w : Supervision) (keep : IsLastingKee
 
 pub lasting_keeps : LastingKeeps
 lasting_keeps = record {
-  stands = λ f area keep store. record { keeps = one_area _ area keep; stores = no_area _ store };
+  stands = λ r none empty. record {
+    keeps = one_area r.keeps r.program.needs.keep.now;
+    stores = no_area r.stores r.program.needs.store.now none empty;
+  };
   begins = λ f area v fs keep lists all i p some noted b stored within.
       let n = lists i p noted in (at_number (IsCompatibleWith f) fs n.0 p all n.1).other_spares b (stored, keep.keeps b within);
   goes_on = λ f v w goes. search rules;

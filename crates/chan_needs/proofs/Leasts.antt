@@ -1,12 +1,13 @@
 -- The least byte or cylinder of lists for which something holds, element by element.
-use Rattle.chan_needs.proofs.Names.{[], and_from, and_parts, Area, AreExactly, arith, both_ways, cases_lt, end_of, Extent, false, get_or, has_cylinder, inl, inr, IsByteOf, IsLeastOrNone, IsMerged, le-leb, least_same, leb-true, length, lesser_of, lies_in, lies_in-cases, lies_in-first, lies_in-nil, List, map, map-append, nat_le, None, Option, or_cases, or_left, or_right, pair, refl, rules, Some, subst, sym, take, take_all, take_more, true, ℕ, ◌&&◌, ◌++◌, ◌+◌, ◌<◌, ◌↔◌, ◌∷◌, ◌≡◌, ◌≤◌, ◌⊎◌}
+use Rattle.chan_needs.proofs.Names.{[], and_from, and_parts, Area, AreExactly, arith, both_ways, cases_lt, end_of, Extent, false, get_or, has_cylinder, inl, inr, IsByteOf, IsLeastOrNone, IsMerged, le-leb, least_same, leb-true, length, lesser_of, lies_in, lies_in-cases, lies_in-first, lies_in-nil, lies_in-rest, List, map, map-append, nat_le, None, Option, or_cases, or_left, or_right, pair, refl, rules, Some, subst, sym, take, take_all, take_more, true, ℕ, ◌&&◌, ◌++◌, ◌+◌, ◌<◌, ◌↔◌, ◌∷◌, ◌≡◌, ◌≢◌, ◌≤◌, ◌⊎◌}
 use Rattle.std.proofs.Common.{◌||◌}
-use Rattle.std.proofs.lemmas.Bool.{false_from_ne_true}
+use Rattle.std.proofs.lemmas.Bool.{false_from_ne_true, ne_eqb}
 use Rattle.std.proofs.lemmas.List.Folds.{list_any-append}
 use Rattle.chan_needs.proofs.Holding.{nowhere}
 use Rattle.chan_areas.specs.Merged.{AreRuns}
 use Rattle.chan_areas.proofs.Merging.{lies_in-append, runs_first, runs_later, runs_push}
 use Rattle.chan_areas.proofs.Searching.{merged_order}
+use Rattle.chan_needs.specs.Row.{besides}
 
 -- ---- the lesser of two leasts
 
@@ -33,7 +34,7 @@ least_more Old Here New P o p q more e h k =
     (λ b r. ((more b).1 (inr r.0), r.1))
     o p h k)
 
-areas_more : (xs : List Area) (i b : ℕ) → i < length xs
+pub areas_more : (xs : List Area) (i b : ℕ) → i < length xs
     → (lies_in (take (i + 1) xs) b ≡ true) ↔ ((lies_in (take i xs) b ≡ true) ⊎ IsByteOf (get_or xs i nowhere) b)
 areas_more xs i b l =
     rw (take_more xs i nowhere l) (search (rules, lies_in-append, lies_in-cases, lies_in-first, or_cases, or_left, or_right, lies_in-nil, both_ways))
@@ -87,6 +88,24 @@ no_cylinder n h = cc
 pub least_in_runs : (xs : List Extent) (i : ℕ) (P : ℕ → Type 0) (o : Option ℕ) → length xs ≤ i
     → IsLeastOrNone (λ n. (has_cylinder (map pair (take i xs)) n ≡ true) × P n) o → IsLeastOrNone (λ n. (has_cylinder (map pair xs) n ≡ true) × P n) o
 least_in_runs xs i P o l = subst (λ (ys : List Extent). IsLeastOrNone (λ n. (has_cylinder (map pair ys) n ≡ true) × P n) o) (take_all i xs l)
+
+-- ---- an area beside a list
+
+in_either : (a : Area) (areas : List Area) (b : ℕ) → a.len ≢ 0
+    → (lies_in (besides a areas) b ≡ true) ↔ (IsByteOf a b ⊎ (lies_in areas b ≡ true))
+in_either a areas b filled = rw (ne_eqb a.len 0 filled) (search (rules, lies_in-cases, lies_in-first, lies_in-rest))
+
+-- the least byte of an area that isn't empty, and of some others
+pub least_besides : (a : Area) (areas : List Area) (P : ℕ → Type 0) (o p : Option ℕ) → a.len ≢ 0
+    → IsLeastOrNone (λ b. IsByteOf a b × P b) o → IsLeastOrNone (λ b. (lies_in areas b ≡ true) × P b) p
+    → IsLeastOrNone (λ b. (lies_in (besides a areas) b ≡ true) × P b) (lesser_of o p)
+least_besides a areas P o p filled =
+    least_more (λ b. IsByteOf a b) (λ b. lies_in areas b ≡ true) (λ b. lies_in (besides a areas) b ≡ true) P o p (lesser_of o p)
+    (λ b. in_either a areas b filled) refl
+
+-- the same byte is shared the other way round
+pub least_swapped : (P Q : ℕ → Type 0) (o : Option ℕ) → IsLeastOrNone (λ b. P b × Q b) o → IsLeastOrNone (λ b. Q b × P b) o
+least_swapped P Q o = least_same _ _ o (λ b h. (h.1, h.0)) (λ b h. (h.1, h.0))
 
 -- ---- merged so far
 

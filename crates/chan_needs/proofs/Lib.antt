@@ -6,6 +6,7 @@ pub mod SideBySide
 pub mod Conflicting
 pub mod History
 pub mod Remembering
+pub mod Rows
 pub mod Beginning
 pub mod Supervising
 pub mod GoingOn

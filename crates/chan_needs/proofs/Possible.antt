@@ -27,6 +27,7 @@ numbered (f ∷ fs) p (inr h) = let r = numbered fs p h in (suc r.0, (omega (ari
 pub can_be_supervised : CanBeSupervised
 can_be_supervised = record {
   begins = λ s. (record { situation = over s; programs = λ i. None }, refl, λ i. refl);
+  row = λ r stores keeps. rw (stores, keeps) refl;
   remembered = λ j p needs start device kept. record { needs = needs; start = start; device = device; kept = kept };
   lists = λ programs fs listed i p e. numbered fs p (listed i p e);
   flying = flying;

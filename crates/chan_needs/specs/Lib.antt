@@ -6,6 +6,7 @@ pub mod LeastBytes
 pub mod Asked
 pub mod Remembered
 pub mod Start
+pub mod Row
 pub mod Supervised
 pub mod Staying
 pub mod Prefix

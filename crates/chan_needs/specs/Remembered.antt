@@ -116,15 +116,16 @@ IsKeeperOf fs a (Some (i, b)) =
     (f : Remembered) × IsInFlightAt fs i f
     × AllWithin (KeepsNone a) fs 0 i × IsLeastOf (IsKeptIn (listed_in f.needs) a) b
 
--- the program keeps the byte at b, and b is past all storage or lies in no area
-abbrev pub IsKeptOutside : Remembered → List Area → ℕ → Type 0
-IsKeptOutside p areas b =
-    (lies_in p.needs.keep.now b ≡ true) × ((b < 2 ^ 32 - 1) × (lies_in areas b ≡ true) → ⊥)
+-- the byte at b is kept, and b is past all storage or lies in no area
+abbrev pub IsKeptOutside : List Area → List Area → ℕ → Type 0
+IsKeptOutside keep areas b =
+    (lies_in keep b ≡ true) × ((b < 2 ^ 32 - 1) × (lies_in areas b ≡ true) → ⊥)
 
--- a write that shares no byte with the areas meets none that the program keeps
-abbrev pub SparesOutside : Remembered → List Area → Type 0
-SparesOutside p areas =
-    (a : Area) → ((b : ℕ) → IsByteOf a b → lies_in areas b ≡ true → ⊥) → KeepsNone a p
+-- a write that shares no byte with the areas meets none that is kept
+abbrev pub SparesOutside : List Area → List Area → Type 0
+SparesOutside keep areas =
+    (a : Area) → ((b : ℕ) → IsByteOf a b → lies_in areas b ≡ true → ⊥)
+    → (b : ℕ) → IsByteOf a b → lies_in keep b ≡ true → ⊥
 
 -- storage becomes t, in bytes of the area alone
 abbrev pub IsWritten : Area → List ℕ → List ℕ → Type 0

@@ -6,6 +6,8 @@ use Rattle.std.specs.List.{All, AllByRecursion}
 use Rattle.ccw_core.specs.declared.areas.Area.{Area}
 use Rattle.chan_walk.specs.declared.job.Job.{Job}
 use Rattle.chan_needs.specs.declared.layout.Remembered.{Remembered}
+use Rattle.chan_needs.specs.declared.layout.Row.{Row}
+use Rattle.chan_needs.specs.Row.{in_row}
 use Rattle.chan_needs.specs.declared.start.Start.TheVariants.{Yes}
 use Rattle.ccw_core.specs.Areas.{lies_in}
 use Rattle.ccw_core.specs.Ccw.{byte}
@@ -131,10 +133,12 @@ GoesOnBeside f v w =
     × ((k : ℕ) → (k ≡ i) ⊎ ProgramWaitsAt v w k))
     ⊎ WritesBeside f v w
 
--- none of these laws is about nothing: supervision begins over any storage; what is remembered,
--- listed, allowed and written follows from its parts; who lists all that is remembered lists each
--- program in flight; and supervision goes on beside each program that the questions are about
+-- none of these laws is about nothing: supervision begins over any storage; a row without areas of
+-- its own stands for its program; what is remembered, listed, allowed and written follows from its
+-- parts; who lists all that is remembered lists each program in flight; and supervision goes on
+-- beside each program that the questions are about
 pub record CanBeSupervised : Type 0 where
+  pub row : (r : Row) → r.stores.len ≡ 0 → r.keeps.len ≡ 0 → in_row r ≡ r.program
   pub begins :
       (s : List ℕ) → (v : Supervision) × (v.situation.storage ≡ s) × IsSupervised (v ∷ [])
   pub remembered :
@@ -183,14 +187,14 @@ IsSparedBy area v =
     (i : ℕ) (p : Remembered) → IsSome (v.situation.at i) → v.programs i ≡ Some p
     → KeepsNone area p
 
--- a row that stores over the area alone, and keeps nothing, stands for such a write, and it may
--- begin when `check_write` names no program; while each question is about a list with the row, no
--- program that keeps a byte of the area starts; so at each moment others may write into the area,
--- by a table of the programs in flight and the write
+-- a row that keeps nothing stands for a write into the area that it stores over, and such a write
+-- may begin when `check_write` names no program; while each question is about a list with the row,
+-- no program that keeps a byte of the area starts; so at each moment others may write into the
+-- area, by a table of the programs in flight and the write
 pub record LastingWrites : Type 0 where
   pub stands :
-      (f : Remembered) (area : Area) → f.needs.store.now ≡ area ∷ [] → f.needs.keep.now ≡ []
-      → IsLastingWrite area f
+      (r : Row) → r.program.needs.keep.now ≡ [] → r.keeps.len ≡ 0
+      → IsLastingWrite r.stores (in_row r)
   pub begins :
       (area : Area) (v : Supervision) (fs : List Remembered) → ListsRemembered v.programs fs
       → IsKeeperOf fs area None → IsSparedBy area v
@@ -217,14 +221,14 @@ IsUntouchedBy area v =
     (i : ℕ) (p : Remembered) → IsSome (v.situation.at i) → v.programs i ≡ Some p
     → (b : ℕ) → lies_in p.needs.store.now b ≡ true → IsByteOf area b → ⊥
 
--- a row that keeps the area alone, and stores over nothing, stands for such bytes, and it may join
+-- a row that stores over nothing stands for the bytes of the area that it keeps, and it may join
 -- the table when it is compatible with all that is remembered; while each question is about a list
 -- with the row, no program that stores over the area starts, and each start, step, end and write
 -- leaves the bytes of the area as they were
 pub record LastingKeeps : Type 0 where
   pub stands :
-      (f : Remembered) (area : Area) → f.needs.keep.now ≡ area ∷ [] → f.needs.store.now ≡ []
-      → IsLastingKeep area f
+      (r : Row) → r.program.needs.store.now ≡ [] → r.stores.len ≡ 0
+      → IsLastingKeep r.keeps (in_row r)
   pub begins :
       (f : Remembered) (area : Area) (v : Supervision) (fs : List Remembered)
       → IsLastingKeep area f → ListsRemembered v.programs fs → All (IsCompatibleWith f) fs

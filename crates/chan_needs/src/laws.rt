@@ -167,24 +167,26 @@ pub(crate) fn supervised_goes_on()
     ensures { SupervisedGoesOn }
 {}
 
-/// A row that only stores over an area stands for a write that lasts, and it may begin when
-/// `check_write` names no program; while each question is about a table with it, no program that
-/// keeps a byte of the area starts, so others may write there at each moment.
+/// A row that keeps nothing stands for a write that lasts into the area that it stores over, and
+/// the write may begin when `check_write` names no program; while each question is about a table
+/// with the row, no program that keeps a byte of the area starts, so others may write there at each
+/// moment.
 #[tactic(auto, using(crate::proofs::Lasting::lasting_writes))]
 pub(crate) fn lasting_writes()
     ensures { LastingWrites }
 {}
 
-/// A row that only keeps an area stands for bytes that last, and it may join the table when it is
-/// compatible with all programs there; while each question is about a table with it, no program
-/// that stores over the area starts, and each start, step, end and write leaves the bytes as they
-/// were.
+/// A row that stores over nothing stands for bytes that last, those of the area that it keeps, and
+/// it may join the table when it is compatible with all programs there; while each question is
+/// about a table with it, no program that stores over the area starts, and each start, step, end
+/// and write leaves the bytes as they were.
 #[tactic(auto, using(crate::proofs::Lasting::lasting_keeps))]
 pub(crate) fn lasting_keeps()
     ensures { LastingKeeps }
 {}
 
-/// The laws on supervision aren't empty: it begins over any storage; what is remembered, listed,
+/// The laws on supervision aren't empty: it begins over any storage; a row without areas of its own
+/// stands for its program; what is remembered, listed,
 /// allowed and written follows from its parts; a list of all that is remembered has each program in
 /// flight; and supervision goes on beside each program that the questions are about.
 #[tactic(auto, using(crate::proofs::Possible::can_be_supervised))]

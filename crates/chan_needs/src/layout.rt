@@ -54,6 +54,20 @@ pub struct Remembered<'a> {
     pub device: u16,
 }
 
+/// A row of the table of what is in flight: a program that was asked about, or areas that others
+/// store over for a while, or rely on. The areas are in the row itself, so that it points at
+/// nothing but the program's memory. A row of zeros is nothing at all.
+#[repr(C)]
+#[derive(Clone, Copy)]
+pub struct Row<'a> {
+    /// The program, or zeros.
+    pub program: Remembered<'a>,
+    /// Others store over this area at any time. It may be empty.
+    pub stores: Area,
+    /// Nothing may store over this area. It may be empty.
+    pub keeps: Area,
+}
+
 /// The list, or an empty list of our own if it has no elements: from C its pointer may be null, and
 /// in the proofs no reference is null.
 pub fn or_empty<'a, T>(list: &'a [T]) -> &'a [T]

@@ -6,8 +6,9 @@ ghost use Rattle.std.specs.List.{HoldsAt};
 ghost use Rattle.ccw_core.specs.Areas.{lies_in};
 ghost use Rattle.ckd_core.specs.Extents.{has_cylinder};
 ghost use Rattle.chan_areas.specs.Merged.{EndsBelow, IsByteOf, IsLeastOrNone, IsMerged};
-ghost use Rattle.chan_needs.specs.LeastBytes.{lesser_of};
+ghost use Rattle.chan_needs.specs.LeastBytes.{LieApart, LieWithin, lesser_of};
 ghost use Rattle.chan_needs.specs.Listed.{IsShared, pair};
+ghost use Rattle.chan_needs.specs.Row.{besides};
 
 use crate::layout::Extent;
 use ccw_core::Area;
@@ -15,11 +16,38 @@ use chan_areas::{Merged, end_of};
 use ckd_core::Extents;
 use std::alloc::{AllocError, Global};
 
+/// Where all bytes of these areas lie: from the first number up to the second.
+pub(crate) fn hull(areas: &[Area]) -> (u64, u64)
+    ensures { LieWithin areas.now result }
+{
+    let (mut start, mut end) = (u64::MAX, 0);
+    for area in areas {
+        start = start.min(u64::from(area.start));
+        end = end.max(end_of(area));
+    }
+    (start, end)
+}
+
+/// Whether some area reaches into a range of bytes, or is empty within it.
+pub(crate) fn reaches(areas: &[Area], range: (u64, u64)) -> bool
+    ensures { result ≡ false → LieApart areas.now range }
+{
+    for area in areas {
+        if u64::from(area.start) < range.1 && range.0 < end_of(area) {
+            return true;
+        }
+    }
+    false
+}
+
 /// The least byte of an area that also lies in some of these areas.
 #[tactic(auto, using(crate::proofs::Leasts::no_byte, crate::proofs::Leasts::least_in_areas))]
 pub(crate) fn least_in(areas: &[Area], range: Area) -> Option<u32>
     ensures { IsLeastOrNone (λ b. (lies_in areas.now b ≡ true) × IsByteOf range b) result }
 {
+    if !reaches(areas, (u64::from(range.start), end_of(&range))) {
+        return None;
+    }
     let mut least = None;
     for area in areas {
         let byte = overlap(*area, range);
@@ -48,6 +76,29 @@ pub(crate) fn least_shared(one: &[Area], other: &[Area]) -> Option<u32>
         least = lesser(least, least_in(other, *area));
     }
     least
+}
+
+/// The least byte that lies in a list, and in an area or in another list.
+pub(crate) fn least_shared_by_either(one: &[Area], area: Area, other: &[Area]) -> Option<u32>
+    ensures { IsLeastOrNone (IsShared one.now (besides area other.now)) result }
+{
+    let shared = least_shared(one, other);
+    if area.len == 0 {
+        return shared;
+    }
+    lesser(least_in(one, area), shared)
+}
+
+/// The least byte of a range that lies in an area or in a list.
+pub(crate) fn least_in_either(area: Area, areas: &[Area], range: Area) -> Option<u32>
+    ensures { IsLeastOrNone (λ b. (lies_in (besides area areas.now) b ≡ true) × IsByteOf range b)
+        result }
+{
+    let least = least_in(areas, range);
+    if area.len == 0 {
+        return least;
+    }
+    lesser(overlap(area, range), least)
 }
 
 /// The least byte that lies in both merged lists. The search skips areas that end before the other

@@ -2,8 +2,8 @@
 //! programs side by side, start a program that was asked about, and let others write meanwhile.
 //!
 //! ```
-//! fn are_compatible(program: &Remembered, other: &Remembered) -> bool {
-//!     program.needs.conflict(&other.needs) == None
+//! fn is_compatible(program: &Remembered, row: &Row) -> bool {
+//!     program.needs.conflict(row) == None
 //! }
 //! ```
 #![tactic(auto)]
@@ -19,8 +19,8 @@ mod remembered;
 mod start;
 
 pub use crate::conflict::Conflict;
-pub use crate::layout::{Extent, NeedLists, Remembered, or_empty, pairs_of};
-pub use crate::needs::{Needs, needs_from};
+pub use crate::layout::{Extent, NeedLists, Remembered, Row, or_empty, pairs_of};
+pub use crate::needs::{Needs, kept_from, needs_from};
 pub use crate::prefix::prefix_at;
 pub use crate::remembered::{check_write, copy_kept, kept_len, kept_outside};
 pub use crate::start::{Start, StartRefusal, check_start};

@@ -10,6 +10,7 @@ ghost use Rattle.chan_walk.specs.Offence.{first_verdict};
 ghost use Rattle.chan_walk.specs.OpenJob.{AreOfOneProgram};
 ghost use Rattle.chan_areas.specs.Merged.{AreExactly, EndsBelow};
 ghost use Rattle.chan_needs.specs.Listed.{AreLooksOfYes, AreNeeds, IsSought};
+ghost use Rattle.chan_needs.specs.Needs.{IsKept};
 ghost use Rattle.chan_needs.specs.Listed.{SeeksCylinder, listed, pair, listed_in, run_of};
 ghost use Rattle.chan_walk.specs.declared.job.Job.{Job};
 ghost use Rattle.chan_walk.specs.declared.verdict.Verdict.TheVariants.{Yes};
@@ -79,6 +80,16 @@ pub fn needs_from(alloc: Global, job: &Job, survey: &Survey) -> Result<Needs, Al
         store: data_moved(alloc, looks, Direction::Store)?.into_areas(),
         keep: guarded_areas(alloc, survey.guard())?.into_areas(),
     })
+}
+
+/// The bytes that a program keeps, as `needs_from` lists them, from the survey of a job with a yes.
+/// `AllocError` comes if a growth was refused.
+pub fn kept_from(alloc: Global, survey: &Survey) -> Result<Vec<Area>, AllocError>
+    ensures { IfOk result (λ v. (j k : Job) → IsSurvey k survey.now
+        → first_verdict survey.now.offences ≡ Yes → AreOfOneProgram j k
+        → AreExactly (IsKept j) v.items) }
+{
+    Ok(guarded_areas(alloc, survey.guard())?.into_areas())
 }
 
 /// The cylinders that seeks go to, as a merged list in which a cylinder counts as a byte.

@@ -1,7 +1,7 @@
 //! The kept bytes of a program, and whether others may write while programs run.
 
 ghost use Rattle.std.specs.Prelude.{◌≡◌, ◌+◌, ◌++◌, ◌<◌, ◌≤◌, ◌↔◌, IfOk, IfSome, IsSome, IsTrue};
-ghost use Rattle.std.specs.Prelude.{MatchOption, None, drop, length, take};
+ghost use Rattle.std.specs.Prelude.{MatchOption, None, drop, length, map, take};
 ghost use Rattle.std.specs.List.{All};
 ghost use Rattle.ccw_core.specs.Ccw.{byte};
 ghost use Rattle.ccw_core.specs.Held.{bytes_held};
@@ -9,51 +9,48 @@ ghost use Rattle.chan_needs.specs.Remembered.{HoldsAreas, HoldsArea, IsFirstChan
 ghost use Rattle.chan_needs.specs.Remembered.{IsFirstChangedIn, IsInside, IsKeeperOf};
 ghost use Rattle.chan_needs.specs.Remembered.{IsKeptOutside, SparesOutside, WritesWell, bytes_in};
 ghost use Rattle.chan_needs.specs.Remembered.{total_len};
+ghost use Rattle.chan_needs.specs.Row.{in_row};
 ghost use Rattle.chan_areas.specs.Merged.{IsLeastOrNone, IsMerged};
 
-use crate::layout::{Remembered, or_empty};
+use crate::layout::{Row, or_empty};
 use crate::least_bytes::least_unlent;
 use ccw_core::{Area, Storage};
 use std::alloc::{AllocError, Global};
 
-/// Whether others, such as the processor, may write to an area now. `None` comes exactly if no
-/// program in flight keeps a byte of the area. Otherwise the answer is the number of the first
-/// program that keeps one of its bytes, and the least byte that this program keeps there.
+/// Whether others, such as the processor, may write to an area now. `None` comes exactly if no row
+/// of what is in flight keeps a byte of the area. Otherwise the answer is the number of the first
+/// row that keeps one of its bytes, and the least byte that this row keeps there.
 ///
 /// The call takes one pass over the kept areas, and no memory.
-pub fn check_write(in_flight: &[Remembered], area: Area) -> Option<(usize, u32)>
-    ensures keeper { IsKeeperOf in_flight.now area result }
+pub fn check_write(in_flight: &[Row], area: Area) -> Option<(usize, u32)>
+    ensures keeper { IsKeeperOf (map in_row in_flight.now) area result }
 
     // If what is remembered of those in flight is true, the history goes on with what is written.
-    ensures well { result ≡ None → WritesWell in_flight.now area }
+    ensures well { result ≡ None → WritesWell (map in_row in_flight.now) area }
 {
     for i in 0..in_flight.len() {
-        if let Some(byte) = in_flight[i].needs.kept_in(area) {
+        if let Some(byte) = in_flight[i].kept_in(area) {
             return Some((i, byte));
         }
     }
     None
 }
 
-/// The least byte that a program keeps outside some areas. `None` comes exactly if each kept byte
-/// lies in one of them: then a write that shares no byte with the areas needs no question, as far
-/// as this program goes. A kept byte at 2^32 - 1 or above, which is in no storage, always counts as
-/// outside.
+/// The least byte of what a program keeps that lies outside some areas. `None` comes exactly if
+/// each kept byte lies in one of them: then a write that shares no byte with the areas needs no
+/// question, as far as this program goes. A kept byte at 2^32 - 1 or above, which is in no storage,
+/// always counts as outside.
 ///
 /// The areas may overlap, be empty and come in any order. The call sorts a copy of them, and takes
 /// a binary search for each kept area. It takes memory only for the copy. `Err` means that memory
 /// ran out.
-pub fn kept_outside(
-    alloc: Global,
-    program: &Remembered,
-    areas: &[Area],
-) -> Result<Option<u32>, AllocError>
-    ensures least { IfOk result (IsLeastOrNone (IsKeptOutside program.now areas.now)) }
+pub fn kept_outside(alloc: Global, keep: &[Area], areas: &[Area]) -> Result<Option<u32>, AllocError>
+    ensures least { IfOk result (IsLeastOrNone (IsKeptOutside keep.now areas.now)) }
 
     // Then a write that shares no byte with the areas meets no kept byte.
-    ensures spared { IfOk result (λ o. o ≡ None → SparesOutside program.now areas.now) }
+    ensures spared { IfOk result (λ o. o ≡ None → SparesOutside keep.now areas.now) }
 {
-    least_unlent(alloc, program.needs.keep(), or_empty(areas), u32::MAX)
+    least_unlent(alloc, keep, or_empty(areas), u32::MAX)
 }
 
 /// Copies the bytes of storage in these areas into a buffer, area after area, in the form of

@@ -1,18 +1,19 @@
 //! Whether a program that was asked about may start now, together with the programs in flight.
 
-ghost use Rattle.std.specs.Prelude.{◌≡◌, ◌↔◌, IfOk, MatchOption};
+ghost use Rattle.std.specs.Prelude.{◌≡◌, ◌↔◌, IfOk, MatchOption, map};
 ghost use Rattle.std.specs.List.{All};
 ghost use Rattle.chan_needs.specs.Start.{IsAnswerOf, IsFit, IsCompatibleWith, GrantsListed};
 ghost use Rattle.chan_needs.specs.Start.{HasConflictInFlight};
 ghost use Rattle.chan_needs.specs.Start.{IsNotGranted, IsOfAnother, IsOfProgram, StartsWell};
 ghost use Rattle.chan_needs.specs.Remembered.{device_number};
 ghost use Rattle.chan_needs.specs.Listed.{listed_in};
+ghost use Rattle.chan_needs.specs.Row.{in_row};
 ghost use Rattle.ckd_core.specs.Mask.{is_at_least};
 ghost use Rattle.chan_needs.specs.declared.start.Start.TheVariants as answer;
 
 use crate::conflict::Conflict;
-use crate::layout::{NeedLists, Remembered};
-use crate::least_bytes::{least_outside, least_unlent};
+use crate::layout::{NeedLists, Remembered, Row};
+use crate::least_bytes::{hull, least_outside, least_unlent};
 use crate::remembered::first_changed;
 use chan_walk::Job;
 use ckd_core::{Device, FileMask};
@@ -40,8 +41,8 @@ pub enum StartRefusal {
     /// The byte at this address wasn't lent for storing, or lies past storage. It is the least
     /// needed byte of this kind.
     Store(u32),
-    /// The program may not run beside the program with this number, the first in flight that is in
-    /// the way.
+    /// The program may not run beside the row with this number, the first in flight that is in the
+    /// way.
     Conflict(usize, Conflict),
 }
 
@@ -62,7 +63,7 @@ pub enum Start {
 /// 1. the job is of the program: same start, same device, same length of storage;
 /// 2. storage holds what was kept;
 /// 3. the job grants what is listed: mask, cylinders, bytes for fetching, bytes for storing;
-/// 4. neither the program nor any program in flight stores into a byte that the other keeps.
+/// 4. neither the program nor any row in flight stores into a byte that the other keeps.
 ///
 /// `No` names the first condition that fails. This holds for lists from anywhere. If what is
 /// remembered of the program and of the programs in flight is true, the answer is about the
@@ -79,14 +80,16 @@ pub fn check_start(
     alloc: Global,
     job: &Job,
     program: &Remembered,
-    in_flight: &[Remembered],
+    in_flight: &[Row],
 ) -> Result<Start, AllocError>
-    ensures answer { IfOk result (IsAnswerOf job.now program.now in_flight.now) }
-    ensures exact { IfOk result (λ s. (s ≡ answer.Yes) ↔ IsFit job.now program.now in_flight.now) }
+    ensures answer { IfOk result (IsAnswerOf job.now program.now
+        (map in_row in_flight.now)) }
+    ensures exact { IfOk result (λ s. (s ≡ answer.Yes)
+        ↔ IsFit job.now program.now (map in_row in_flight.now)) }
 
     // If what is remembered is true, a program with a yes may start.
     ensures well { IfOk result (λ s. s ≡ answer.Yes
-        → StartsWell job.now program.now in_flight.now) }
+        → StartsWell job.now program.now (map in_row in_flight.now)) }
 {
     job.show_proper();
     if let Some(refusal) = of_another(job, program) {
@@ -164,14 +167,17 @@ fn not_granted(
     Ok(unlent.map(|byte| StartRefusal::Store(byte)))
 }
 
-/// The first program in flight with which the program is in conflict, and how.
-fn conflict_in_flight(program: &Remembered, in_flight: &[Remembered]) -> Option<StartRefusal>
-    ensures { MatchOption result (All (IsCompatibleWith program.now) in_flight.now)
-        (HasConflictInFlight program.now in_flight.now) }
+/// The first row in flight with which the program is in conflict, and how.
+fn conflict_in_flight(program: &Remembered, in_flight: &[Row]) -> Option<StartRefusal>
+    ensures { MatchOption result (All (IsCompatibleWith program.now) (map in_row in_flight.now))
+        (HasConflictInFlight program.now (map in_row in_flight.now)) }
 {
+    let (stores, keeps) = (hull(program.needs.store()), hull(program.needs.keep()));
     for i in 0..in_flight.len() {
-        if let Some(conflict) = program.needs.conflict(&in_flight[i].needs) {
-            return Some(StartRefusal::Conflict(i, conflict));
+        if in_flight[i].is_near(stores, keeps) {
+            if let Some(conflict) = program.needs.conflict(&in_flight[i]) {
+                return Some(StartRefusal::Conflict(i, conflict));
+            }
         }
     }
     None

@@ -28,4 +28,4 @@ texts_of_failure failures.WriteFailed = failure_texts (codes "write failed\n") 3
 texts_of_failure failures.OutOfMemory = failure_texts (codes "out of memory\n") 3 true
 texts_of_failure failures.NotCcw = failure_texts (codes "not a CCW\n") 4 false
 texts_of_failure failures.NoSuchWord =
-    failure_texts (codes "no such word; chanv explain lists all words\n") 4 false
+    failure_texts (codes "no such word; chanv explain lists all words\n") 4 true

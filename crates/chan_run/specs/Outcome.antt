@@ -75,8 +75,8 @@ line_over name (Refused number cause) =
     codes "chanv: " ++ (name_before name true ++ (codes "deck line "
     ++ (decimal number ++ (codes ": " ++ (word_of_cause cause ++ 10 ∷ [])))))
 line_over name (Unknown word) =
-    codes "chanv: no such word; the nearest is "
-    ++ (word.now ++ codes ", and chanv explain lists all words\n")
+    codes "chanv: " ++ (name_before name true ++ (codes "no such word; the nearest is "
+    ++ (word.now ++ codes ", and chanv explain lists all words\n")))
 line_over name (Failed failure) =
     codes "chanv: "
     ++ (name_before name (texts_of_failure failure).on_input ++ (texts_of_failure failure).line)

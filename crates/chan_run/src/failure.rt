@@ -7,7 +7,7 @@ ghost use Rattle.chan_run.specs.Failure.{failure_texts, texts_of_failure};
 type FailureTexts = (&'static str, u8, bool);
 
 /// What the line on a word without a meaning begins with, if another word is near.
-pub(crate) const UNKNOWN: &str = "chanv: no such word; the nearest is ";
+pub(crate) const UNKNOWN: &str = "no such word; the nearest is ";
 
 /// What ends that line.
 pub(crate) const LISTS_ALL: &str = ", and chanv explain lists all words\n";
@@ -86,6 +86,6 @@ fn texts_of(failure: Failure) -> FailureTexts
         Failure::WriteFailed => ("write failed\n", 3, false),
         Failure::OutOfMemory => ("out of memory\n", 3, true),
         Failure::NotCcw => ("not a CCW\n", 4, false),
-        Failure::NoSuchWord => ("no such word; chanv explain lists all words\n", 4, false),
+        Failure::NoSuchWord => ("no such word; chanv explain lists all words\n", 4, true),
     }
 }

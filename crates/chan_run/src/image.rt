@@ -16,7 +16,7 @@ use crate::input::read_input;
 use crate::least_job::{NoLeastJob, extents_over, least_text};
 use ccw_core::{Area, STORAGE_LIMIT, Watched};
 use chan_args::{ImageOptions, RequestedJob};
-use chan_deck::{Parts, in_six_digits, parts_text};
+use chan_deck::{Parts, UnreadNotes, in_six_digits, parts_text};
 use ckd_core::FileMask;
 use std::alloc::{AllocError, Global};
 use std::io::Read;
@@ -101,12 +101,14 @@ pub(crate) fn too_long(options: &ImageOptions) -> Failure
 }
 
 /// The text of the deck that an image makes with the job that is asked for. The first `given` bytes
-/// of the image were read, and zeros follow them.
+/// of the image were read, and zeros follow them; notes are added on others that the program of a
+/// least job takes.
 pub(crate) fn deck_text(
     alloc: Global,
     options: &ImageOptions,
     image: &[u8],
     given: usize,
+    unread: &mut UnreadNotes,
 ) -> Result<Vec<u8>, NoLeastJob>
     requires { options.now.at + length image.now ≤ STORAGE_LIMIT }
     ensures text { IfOk result (λ text. IsDeckText options.now image.now text.items) }
@@ -114,7 +116,7 @@ pub(crate) fn deck_text(
 {
     match options.job {
         RequestedJob::Named => Ok(named_text(alloc, options, image)?),
-        RequestedJob::Least => least_text(alloc, options, image, given),
+        RequestedJob::Least => least_text(alloc, options, image, given, unread),
         RequestedJob::Open => Ok(open_text(alloc, options, image)?),
     }
 }

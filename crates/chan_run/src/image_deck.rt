@@ -25,7 +25,7 @@ use crate::response::Response;
 use crate::texts::write_bytes;
 use ccw_core::Watched;
 use chan_args::ImageOptions;
-use chan_deck::{USUAL_DEVICE, deck_note, image_notes, limit_note, room_note};
+use chan_deck::{USUAL_DEVICE, UnreadNotes, deck_note, image_notes, limit_note, room_note};
 use chan_walk::Limit;
 use std::alloc::{AllocError, Global};
 use std::io::{Read, Write};
@@ -125,6 +125,19 @@ fn notes_on_read(
     image_notes(alloc, options.at, image.get(..given).unwrap_or(image))
 }
 
+/// The notes on an image of which a deck was made, those on what its program takes first.
+fn notes_on_deck(
+    alloc: Global,
+    options: &ImageOptions,
+    image: &[u8],
+    given: usize,
+    unread: UnreadNotes,
+) -> Result<Vec<u8>, AllocError> {
+    let mut notes = unread.into_text()?.into_bytes();
+    notes.extend_from_slice(notes_on_read(alloc, options, image, given)?.as_slice())?;
+    Ok(notes)
+}
+
 /// Why no job will do for the program of an image, and the notes on the image.
 fn why_no_job(
     alloc: Global,
@@ -157,11 +170,12 @@ fn respond_to_image(
     ensures known { IsImageEnd result.outcome }
 {
     let note = deck_note(image);
-    match deck_text(alloc, options, image, given) {
+    let mut unread = UnreadNotes::new(alloc);
+    match deck_text(alloc, options, image, given, &mut unread) {
         Ok(output) => Response {
             outcome: Outcome::Done,
             output,
-            advice: notes_on_read(alloc, options, image, given).ok(),
+            advice: notes_on_deck(alloc, options, image, given, unread).ok(),
             note,
         },
         Err(

@@ -8,9 +8,9 @@ use crate::input::{TEXT_LIMIT, read_input};
 use crate::name::named;
 use crate::outcome::{Outcome, report};
 use crate::texts::{write_bytes, write_texts};
-use ccw_core::{STORAGE_LIMIT, Watched};
-use chan_args::ImageOptions;
-use chan_deck::{DumpError, is_text, read_dump};
+use ccw_core::{Area, STORAGE_LIMIT, Watched};
+use chan_args::ImageRequest;
+use chan_deck::{DumpError, may_be_text, read_dump};
 use std::alloc::Global;
 use std::io;
 use std::io::{Read, Write};
@@ -47,29 +47,29 @@ impl<R: Read> Read for ImageInput<R> {
     }
 }
 
-/// Looks at an input, and gives what the image is read from. If the input is a dump, these are its
-/// bytes, and the writer gets the notes on it. Unless an address was asked for, that of the options
-/// becomes the dump's own, or zero if the input isn't a dump. Where there is no image, the writer
-/// gets the line that says so, and the exit status is given.
+/// Looks at an input, and gives what the image is read from. Text is read as a dump, unless the
+/// request says that the image is raw: its bytes are the dump's, and the writer gets the notes on
+/// it. If the request doesn't place the image, its address becomes the dump's own, or zero. Where
+/// there is no image, the writer gets the line that says so, and the exit status is given.
 ///
-/// If the input is text, it is read to its end; if not, only its first bytes are read here.
+/// If the input may be text, it is read to its end; if not, only its first bytes are read here.
 pub fn take_image<R: Read + Drop, W: Write>(
     alloc: Global,
     name: Option<&str>,
-    options: &mut ImageOptions,
-    is_placed: bool,
+    request: &mut ImageRequest,
     input: R,
     errors: &mut Watched<W>,
 ) -> Result<ImageInput<R>, u8>
     requires { errors.old.failed ≡ false }
 {
-    let image = match look_at(alloc, options, input) {
+    request.options.gaps = Vec::new(alloc);
+    if !request.is_placed {
+        request.options.at = 0;
+    }
+    let image = match look_at(alloc, request, input) {
         Ok(image) => image,
         Err(failure) => return Err(report(name, Outcome::Failed(failure), errors)),
     };
-    if !is_placed {
-        options.at = 0;
-    }
     if image.rest.is_some() {
         return Ok(image);
     }
@@ -77,9 +77,10 @@ pub fn take_image<R: Read + Drop, W: Write>(
         Ok(None) => Ok(image),
         Ok(Some(dump)) => {
             let _ = write_bytes(dump.notes.as_bytes(), errors);
-            if !is_placed && dump.at < STORAGE_LIMIT {
-                options.at = dump.at;
+            if !request.is_placed && dump.at < STORAGE_LIMIT {
+                request.options.at = dump.at;
             }
+            request.options.gaps = moved(dump.gaps, dump.at, request.options.at);
             Ok(whole(dump.image))
         }
         Err(DumpError::Refused(text)) => {
@@ -93,6 +94,15 @@ pub fn take_image<R: Read + Drop, W: Write>(
     }
 }
 
+/// Areas of an image that begins at one address, if it begins at another.
+fn moved(areas: Vec<Area>, from: u32, to: u32) -> Vec<Area> {
+    let mut areas = areas;
+    for area in areas.as_mut_slice() {
+        area.start = area.start.saturating_sub(from).saturating_add(to);
+    }
+    areas
+}
+
 /// An image that has these bytes and no more.
 fn whole<R>(bytes: Vec<u8>) -> ImageInput<R> {
     ImageInput {
@@ -102,10 +112,10 @@ fn whole<R>(bytes: Vec<u8>) -> ImageInput<R> {
     }
 }
 
-/// Reads the first bytes of an input, and if they are text, all of it.
+/// Reads the first bytes of an input, and if they may be text that isn't raw, all of it.
 fn look_at<R: Read + Drop>(
     alloc: Global,
-    options: &ImageOptions,
+    request: &ImageRequest,
     input: R,
 ) -> Result<ImageInput<R>, Failure> {
     let mut input = input;
@@ -113,7 +123,7 @@ fn look_at<R: Read + Drop>(
     if front.is_empty() {
         return Ok(whole(front));
     }
-    let is_text = is_text(front.as_slice());
+    let is_text = !request.is_raw && may_be_text(front.as_slice());
     let image = ImageInput {
         front,
         given: 0,
@@ -124,7 +134,7 @@ fn look_at<R: Read + Drop>(
     }
     match read_input(alloc, TEXT_LIMIT, &mut Watched::new(image))? {
         Some(text) => Ok(whole(text)),
-        None => Err(too_long(options)),
+        None => Err(too_long(&request.options)),
     }
 }
 

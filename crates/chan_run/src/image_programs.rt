@@ -17,17 +17,17 @@ use crate::delivery::deliver;
 use crate::failure::Failure;
 use crate::image::{WholeImage, read_image};
 use crate::image_deck::room_advice;
-use crate::least_job::job_at;
+use crate::least_job::{bytes_read, job_at};
 use crate::outcome::Outcome;
 use crate::response::Response;
-use ccw_core::{Storage, Watched, write_out};
+use ccw_core::{STORAGE_LIMIT, Storage, Watched, write_out};
 use chan_args::ImageOptions;
 use chan_deck::{
-    deck_note, find_note, image_notes, limit_note, place_image, program_text, shape_of,
-    unjudged_text,
+    ImageBytes, UnreadNotes, deck_note, find_note, image_notes, limit_note, place_image,
+    program_text, shape_of, storage_note, unjudged_text,
 };
 use chan_find::program_starts;
-use chan_walk::{Limit, OpenJob, WalkError, survey};
+use chan_walk::{Limit, OpenJob, Reason, Survey, Verdict, WalkError, survey};
 use std::alloc::{AllocError, Global};
 use std::io::{Read, Write};
 
@@ -84,16 +84,24 @@ fn search_image<R: Read, W: Write>(
 {
     match read_image(alloc, options, from) {
         Ok(image) => {
-            let (outcome, note, is_past_limit) = write_programs(
+            let mut seen = Seen {
+                is_past_limit: false,
+                is_past_storage: false,
+                unread: UnreadNotes::new(alloc),
+            };
+            let read = bytes_read(options, image.given);
+            let (outcome, note) = write_programs(
                 alloc,
                 options,
                 image.bytes.as_slice(),
+                &read,
+                &mut seen,
                 to,
             );
             Response {
                 outcome,
                 output: Vec::new(alloc),
-                advice: notes_on_image(alloc, options, outcome, is_past_limit, &image),
+                advice: notes_on_image(alloc, options, outcome, seen, &image).ok(),
                 note,
             }
         }
@@ -106,41 +114,79 @@ fn search_image<R: Read, W: Write>(
     }
 }
 
-/// The notes on an image that was searched, unless memory ran out for that, and what the limit is
-/// if a program is past it.
+/// What is seen of the programs of an image beside their lines.
+#[derive(Drop)]
+struct Seen {
+    /// Whether a program has too many places.
+    is_past_limit: bool,
+    /// Whether data of a program goes past the end of storage.
+    is_past_storage: bool,
+    /// The notes on bytes that programs with a yes take though the image doesn't hold them.
+    unread: UnreadNotes,
+}
+
+impl Seen {
+    /// Adds what is seen of a program that was judged over an image that holds these bytes.
+    fn add(&mut self, survey: &Survey, image: &ImageBytes<'_>) -> Result<(), AllocError> {
+        match survey.verdict() {
+            Verdict::Yes => self.unread.add(survey.looks(), image)?,
+            Verdict::No { reason, .. } => {
+                self.is_past_storage |= matches!(reason, Reason::DataOutside);
+            }
+        }
+        Ok(())
+    }
+}
+
+/// The notes on an image that was searched. If all went well, they are on bytes that programs take,
+/// and on the size of storage, if data goes past its end. Then come those on the image, unless
+/// memory ran out before, and if all went well, what the limit is, if a program is past it.
 fn notes_on_image(
     alloc: Global,
     options: &ImageOptions,
     outcome: Outcome,
-    is_past_limit: bool,
+    seen: Seen,
     image: &WholeImage,
-) -> Option<Vec<u8>> {
+) -> Result<Vec<u8>, AllocError> {
+    let is_done = matches!(outcome, Outcome::Done);
+    let is_past_limit = is_done && seen.is_past_limit;
+    let is_past_storage = is_done && seen.is_past_storage;
     let mut notes = Vec::new(alloc);
+    if is_done {
+        notes.extend_from_slice(seen.unread.into_text()?.as_bytes())?;
+    }
+    let end = (options.at as usize)
+        .saturating_add(image.bytes.len())
+        .next_multiple_of(8);
+    if is_past_storage && end < STORAGE_LIMIT as usize {
+        notes.extend_from_slice(storage_note(alloc, end as u32)?.as_bytes())?;
+    }
     if !matches!(outcome, Outcome::Failed(Failure::OutOfMemory)) {
         let read = image.bytes.as_slice().get(..image.given).unwrap_or(&[]);
-        notes = image_notes(alloc, options.at, read).ok()?;
+        notes.extend_from_slice(image_notes(alloc, options.at, read)?.as_slice())?;
     }
     if is_past_limit {
         let limit = limit_in(options).unwrap_or(Limit::usual());
-        notes
-            .extend_from_slice(limit_note(alloc, limit).ok()?.as_bytes())
-            .ok()?;
+        notes.extend_from_slice(limit_note(alloc, limit)?.as_bytes())?;
     }
-    Some(notes)
+    Ok(notes)
 }
 
 /// How many places `find` judges in one image: as many as the largest storage has, one for each
 /// doubleword and way to enter it. So programs that share no place are all judged.
 const PLACES_JUDGED: usize = 16_777_216;
 
-/// Writes a line for each program in an image, as each verdict is known, and says what came of it,
-/// with the note on the image, or an empty text, and whether a program has too many places.
+/// Writes a line for each program in an image, which holds the bytes of `read`, as each verdict is
+/// known, and says what came of it, with the note on the image, or an empty text. What is seen
+/// beside the lines is added.
 fn write_programs<W: Write>(
     alloc: Global,
     options: &ImageOptions,
     image: &[u8],
+    read: &ImageBytes<'_>,
+    seen: &mut Seen,
     to: &mut Watched<W>,
-) -> (Outcome, &'static str, bool)
+) -> (Outcome, &'static str)
     requires short { options.now.at + length image.now ≤ STORAGE_LIMIT }
     requires writer { to.old.failed ≡ false }
     ensures answer { IsSearchOutput options.now image.now
@@ -149,11 +195,7 @@ fn write_programs<W: Write>(
     ensures read { result.0 ≡ Failed failures.ReadFailed → ⊥ }
     ensures write { IsWriteFailure result.0 ↔ (to.new.failed ≡ true) }
 {
-    let no_memory = (
-        Outcome::Failed(Failure::OutOfMemory),
-        deck_note(image),
-        false,
-    );
+    let no_memory = (Outcome::Failed(Failure::OutOfMemory), deck_note(image));
     let Ok(bytes) = place_image(alloc, options.at as usize, image) else {
         return no_memory;
     };
@@ -162,25 +204,14 @@ fn write_programs<W: Write>(
     let Ok(starts) = program_starts(alloc, &storage, options.device) else {
         return no_memory;
     };
-    let (mut left, mut is_past_limit) = (PLACES_JUDGED, false);
+    let mut left = PLACES_JUDGED;
     for start in starts.as_slice() {
-        let line = program_line(
-            alloc,
-            options,
-            storage,
-            *start,
-            &mut left,
-            &mut is_past_limit,
-        );
+        let line = program_line(alloc, options, storage, *start, &mut left, read, seen);
         let Ok(line) = line else {
             return no_memory;
         };
         if write_out(line.as_bytes(), to).is_err() {
-            return (
-                Outcome::Failed(Failure::WriteFailed),
-                deck_note(image),
-                false,
-            );
+            return (Outcome::Failed(Failure::WriteFailed), deck_note(image));
         }
     }
     let note = find_note(
@@ -189,19 +220,20 @@ fn write_programs<W: Write>(
         options.at != 0,
         options.size.is_some(),
     );
-    (Outcome::Done, note, is_past_limit)
+    (Outcome::Done, note)
 }
 
 /// The line of the program that begins at an address in storage. `left` is how many places may
-/// still be judged: a program that begins before none is left is judged whole. `is_past_limit`
-/// becomes true if the program has too many places.
+/// still be judged: a program that begins before none is left is judged whole. What is seen of it
+/// over an image that holds the bytes of `read` is added.
 fn program_line(
     alloc: Global,
     options: &ImageOptions,
     storage: Storage<'_>,
     start: u32,
     left: &mut usize,
-    is_past_limit: &mut bool,
+    read: &ImageBytes<'_>,
+    seen: &mut Seen,
 ) -> Result<String, AllocError>
     ensures { (image : List ℕ) → bytes_held storage.entry ≡ storage_with options.now.at image
         → IfOk result (λ line. IsLineAt options.now image start left.old (string_bytes line)
@@ -210,19 +242,20 @@ fn program_line(
     if *left == 0 {
         return unjudged_text(alloc, start);
     }
-    let (line, places) = judged_line(alloc, options, storage, start, is_past_limit)?;
+    let (line, places) = judged_line(alloc, options, storage, start, read, seen)?;
     *left = left.saturating_sub(places);
     Ok(line)
 }
 
 /// The line of the program that begins at an address in storage, with its verdict, and how many
-/// places that took. `is_past_limit` becomes true if there are too many.
+/// places that took. What is seen of it is added.
 fn judged_line(
     alloc: Global,
     options: &ImageOptions,
     storage: Storage<'_>,
     start: u32,
-    is_past_limit: &mut bool,
+    read: &ImageBytes<'_>,
+    seen: &mut Seen,
 ) -> Result<(String, usize), AllocError>
     ensures { (image : List ℕ) → bytes_held storage.entry ≡ storage_with options.now.at image
         → IfOk result (λ judged. IsJudgedAt options.now image start (string_bytes judged.0)
@@ -234,12 +267,13 @@ fn judged_line(
     match survey(alloc, &open_job) {
         Ok(survey) => {
             let verdict = survey.verdict();
+            seen.add(&survey, read)?;
             let (shape, places) = shape_of(alloc, survey)?;
             let line = program_text(alloc, job.start, Some(verdict), shape.as_str())?;
             Ok((line, places))
         }
         Err(WalkError::TooManyPlaces) => {
-            *is_past_limit = true;
+            seen.is_past_limit = true;
             let line = program_text(alloc, job.start, None, "")?;
             Ok((line, open_job.limit.get() as usize))
         }

@@ -24,7 +24,9 @@ use crate::deck_parts::{deck_parts, limit_in};
 use crate::failure::Failure;
 use ccw_core::{Area, Storage};
 use chan_args::ImageOptions;
-use chan_deck::{Parts, image_advice, in_six_digits, parts_text, place_image, why_text};
+use chan_deck::{
+    ImageBytes, Parts, UnreadNotes, image_advice, in_six_digits, parts_text, place_image, why_text,
+};
 use chan_needs::{Needs, needs_from, pairs_of};
 use chan_walk::{Job, Limit, OpenJob, Reason, Survey, Verdict, WalkError, survey};
 use chan_why::findings_from;
@@ -58,19 +60,21 @@ impl From<AllocError> for NoLeastJob {
 }
 
 /// The text of the deck that an image makes with the options and the least job of its program. The
-/// first `given` bytes of the image were read, and zeros follow them.
+/// first `given` bytes of the image were read, and zeros follow them; notes are added on others
+/// that the program takes.
 pub(crate) fn least_text(
     alloc: Global,
     options: &ImageOptions,
     image: &[u8],
     given: usize,
+    unread: &mut UnreadNotes,
 ) -> Result<Vec<u8>, NoLeastJob>
     requires short { options.now.at + length image.now ≤ STORAGE_LIMIT }
     requires least { options.now.job ≡ jobs.Least }
     ensures text { IfOk result (λ text. IsDeckText options.now image.now text.items) }
     ensures none { IfErr result (HasNoLeastJob options.now image.now) }
 {
-    let needs = match needs_in(alloc, options, image, given) {
+    let needs = match needs_in(alloc, options, image, given, unread) {
         Ok(needs) => needs,
         Err(none) => return Err(none),
     };
@@ -157,6 +161,7 @@ fn needs_in(
     options: &ImageOptions,
     image: &[u8],
     given: usize,
+    unread: &mut UnreadNotes,
 ) -> Result<Needs, NoLeastJob>
     requires { options.now.at + length image.now ≤ STORAGE_LIMIT }
     ensures ok { IfOk result (λ n. (j : Job) → IsProgramIn options.now image.now j
@@ -168,11 +173,7 @@ fn needs_in(
     // it isn't too large, since the image ends in storage
     let storage = Storage::new(&bytes).unwrap();
     let job = job_at(options, storage, options.start);
-    let read = Area {
-        start: options.at,
-        len: u32::try_from(given).unwrap_or(u32::MAX),
-    };
-    image_needs(alloc, &job, read)
+    image_needs(alloc, &job, &bytes_read(options, given), unread)
 }
 
 /// The job of the program that begins at an address in storage, as the options have it.
@@ -192,8 +193,25 @@ pub(crate) fn job_at<'a>(options: &'a ImageOptions, storage: Storage<'a>, start:
     }
 }
 
-/// What the program of a job needs; `read` is what was read of its image.
-fn image_needs(alloc: Global, job: &Job<'_>, read: Area) -> Result<Needs, NoLeastJob>
+/// What an image holds of which so many bytes were read.
+pub(crate) fn bytes_read(options: &ImageOptions, given: usize) -> ImageBytes<'_> {
+    ImageBytes {
+        area: Area {
+            start: options.at,
+            len: u32::try_from(given).unwrap_or(u32::MAX),
+        },
+        gaps: options.gaps.as_slice(),
+    }
+}
+
+/// What the program of a job needs; `read` is what its image holds, and notes are added on other
+/// bytes that the program takes.
+fn image_needs(
+    alloc: Global,
+    job: &Job<'_>,
+    read: &ImageBytes<'_>,
+    unread: &mut UnreadNotes,
+) -> Result<Needs, NoLeastJob>
     ensures ok { IfOk result (λ n. (j : Job) → AreOfOneProgram j job.now
         → AreNeeds j (listed n)) }
     ensures err { IfErr result (λ e. (o : ImageOptions) (image : List ℕ)
@@ -212,17 +230,20 @@ fn image_needs(alloc: Global, job: &Job<'_>, read: Area) -> Result<Needs, NoLeas
             reason,
             why: open_explanation(alloc, &open_job, survey, read)?,
         }),
-        Verdict::Yes => Ok(needs_from(alloc, &open_job, &survey)?),
+        Verdict::Yes => {
+            unread.add(survey.looks(), read)?;
+            Ok(needs_from(alloc, &open_job, &survey)?)
+        }
     }
 }
 
 /// The explanation of the verdict on an open job that was surveyed, with notes and how to cure it;
-/// `read` is what was read of the image.
+/// `read` is what the image holds.
 fn open_explanation(
     alloc: Global,
     open_job: &Job,
     survey: Survey,
-    read: Area,
+    read: &ImageBytes<'_>,
 ) -> Result<String, AllocError>
     requires { IsSurvey open_job.now survey }
     ensures { IfOk result (λ text. IsExplainedOpenly open_job.now (string_bytes text)) }

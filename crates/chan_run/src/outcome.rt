@@ -8,6 +8,7 @@ ghost use Rattle.chan_run.specs.Outcome.{outcome_of_show, outcome_of_write, stat
 ghost use Rattle.chan_run.specs.Response.{outcome_of};
 ghost use Rattle.chan_run.specs.Texts.{WriterGot};
 ghost use Rattle.chan_run.specs.declared.outcome.Outcome.TheVariants.{Done, Failed, Refused};
+ghost use Rattle.chan_run.specs.declared.outcome.Outcome.TheVariants.{Unknown};
 
 use crate::failure::{Failure, LISTS_ALL, UNKNOWN};
 use crate::name::named;
@@ -164,7 +165,7 @@ pub(crate) fn write_line<W: Write>(
 {
     match outcome {
         Outcome::Refused { line, cause } => write_refusal(name, line, cause, to),
-        Outcome::Unknown(word) => write_texts(&[UNKNOWN, word, LISTS_ALL], to),
+        Outcome::Unknown(nearest) => write_unknown(name, nearest, to),
         Outcome::Failed(failure) => write_failure(name, failure, to),
         _ => Ok(()),
     }
@@ -198,6 +199,21 @@ fn write_refusal<W: Write>(
         ],
         to,
     )
+}
+
+/// Writes the line on an unknown word that may be named, and the nearest.
+fn write_unknown<W: Write>(
+    name: Option<&str>,
+    nearest: &'static str,
+    to: &mut Watched<W>,
+) -> Result<(), DeviceFault>
+    requires { to.old.failed ≡ false }
+    ensures said { WriterGot (line_over (name_in name.entry) (Unknown nearest.entry))
+        (W.contents to.old.device) (W.contents to.new.device) to.new.failed }
+    ensures fault { IsErr result ↔ (to.new.failed ≡ true) }
+{
+    let (name, mark) = named(name, true);
+    write_texts(&["chanv: ", name, mark, UNKNOWN, nearest, LISTS_ALL], to)
 }
 
 /// Writes the line of a failure.

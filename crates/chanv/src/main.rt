@@ -184,12 +184,18 @@ fn report_no_memory(rt: &HostRuntime) -> u8 {
     report_on(rt, None, Outcome::Failed(Failure::OutOfMemory))
 }
 
-/// Ends with an outcome of which this is the output, and gives the exit status.
-fn end_with<W: Write>(rt: &HostRuntime, outcome: Outcome, output: &mut Watched<W>) -> u8
+/// Ends with an outcome of which this is the output, over a word that may be named, and says what
+/// came of it.
+fn end_with<W: Write>(
+    rt: &HostRuntime,
+    word: Option<&str>,
+    outcome: Outcome,
+    output: &mut Watched<W>,
+) -> Outcome
     requires { IsWriteFailure outcome ↔ (output.old.failed ≡ true) }
 {
     let end = Response::bare(rt.alloc(), outcome, "");
-    exit_status(deliver(None, &end, output, &mut Watched::new(rt.stderr())))
+    deliver(word, &end, output, &mut Watched::new(rt.stderr()))
 }
 
 /// Writes help or the version, and gives the exit status.
@@ -218,7 +224,7 @@ fn show_ccw(rt: &HostRuntime, parts: &[&str]) -> u8 {
         Ok(text) => Outcome::of_show(show(rt.alloc(), text.as_str(), &mut output)),
         Err(AllocError) => Outcome::Failed(Failure::OutOfMemory),
     };
-    end_with(rt, answer, &mut output)
+    exit_status(end_with(rt, None, answer, &mut output))
 }
 
 /// Shows the CCW whose parts have a space between two, with the name of its command.
@@ -229,7 +235,8 @@ fn show_named_ccw(rt: &HostRuntime, parts: &[&str]) -> u8 {
     }
 }
 
-/// Explains a word of these parts, or lists the words that have a meaning if there is no part.
+/// Explains the word of these parts, or each part, or lists the words that have a meaning if there
+/// is no part.
 fn explain_or_list(rt: &HostRuntime, parts: &[&str]) -> u8 {
     if parts.is_empty() {
         return list_all_words(rt);
@@ -237,14 +244,34 @@ fn explain_or_list(rt: &HostRuntime, parts: &[&str]) -> u8 {
     explain(rt, parts)
 }
 
-/// Explains a word whose parts stand with a space between two.
+/// Explains the word whose parts stand with a space between two. If there is no such word, and none
+/// is near, each part is a word.
 fn explain(rt: &HostRuntime, parts: &[&str]) -> u8 {
     let mut output = Watched::new(Explanation(rt.stdout()));
     let answer = match joined(rt, parts, " ") {
         Ok(word) => explain_word(rt.alloc(), word.as_str(), &mut output),
         Err(AllocError) => Outcome::Failed(Failure::OutOfMemory),
     };
-    end_with(rt, answer, &mut output)
+    match answer {
+        Outcome::Failed(Failure::NoSuchWord) if parts.len() > 1 => explain_each(rt, parts),
+        _ => exit_status(end_with(rt, None, answer, &mut output)),
+    }
+}
+
+/// Explains each word, up to a failed write, and gives the greatest status. The line on a word that
+/// has no meaning names it.
+fn explain_each(rt: &HostRuntime, words: &[&str]) -> u8 {
+    let mut greatest = 0;
+    for word in words {
+        let mut output = Watched::new(Explanation(rt.stdout()));
+        let answer = explain_word(rt.alloc(), word, &mut output);
+        let outcome = end_with(rt, Some(word), answer, &mut output);
+        greatest = greater_status(greatest, exit_status(outcome));
+        if ends_run(outcome) {
+            break;
+        }
+    }
+    greatest
 }
 
 /// Some texts with another between two.
@@ -262,7 +289,7 @@ fn joined(rt: &HostRuntime, parts: &[&str], between: &str) -> Result<String, All
 fn list_all_words(rt: &HostRuntime) -> u8 {
     let mut output = Watched::new(Explanation(rt.stdout()));
     let answer = list_words(&mut output);
-    end_with(rt, answer, &mut output)
+    exit_status(end_with(rt, None, answer, &mut output))
 }
 
 /// Runs over each input, or over standard input if there is none, and gives the exit status.
@@ -397,16 +424,8 @@ fn print_heading(rt: &HostRuntime, naming: Naming<'_>) -> bool {
 /// Finds the programs in an image that may have a name, or makes a deck of it, and gives the exit
 /// status.
 fn search(rt: &HostRuntime, name: Option<&str>, request: &mut ImageRequest, input: Input) -> u8 {
-    let is_placed = request.is_placed;
     let mut errors = Watched::new(rt.stderr());
-    match take_image(
-        rt.alloc(),
-        name,
-        &mut request.options,
-        is_placed,
-        input,
-        &mut errors,
-    ) {
+    match take_image(rt.alloc(), name, request, input, &mut errors) {
         Ok(image) => exit_status(answer_on(rt, name, &request.options, request.finds, image)),
         Err(status) => status,
     }

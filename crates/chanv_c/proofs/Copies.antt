@@ -1,5 +1,10 @@
 -- What is found of a program over a copy of the bytes that it keeps.
-use Rattle.std.proofs.Common.{◌∙◌, ◌≡◌, ℕ, List, ap, drop, length, subst, sym}
+use Rattle.chan_walk.specs.declared.job.Job.{Job}
+use Rattle.chan_walk.specs.declared.verdict.Verdict.{Verdict}
+use Rattle.chan_walk.specs.Answers.{IsAnswer}
+use Rattle.chan_walk.specs.OpenJob.{open_job}
+use Rattle.chan_walk.specs.Verdict.{IsVerdict}
+use Rattle.std.proofs.Common.{◌↔◌, ◌∙◌, ◌≡◌, ℕ, List, ap, drop, length, subst, sym}
 use Rattle.ccw_core.specs.declared.areas.Area.{Area}
 use Rattle.chan_walk.specs.Job.{storage_of}
 use Rattle.chan_why.specs.declared.remarks.Remarks.{Remarks}
@@ -9,7 +14,7 @@ use Rattle.chan_needs.specs.Listed.{Listed}
 use Rattle.chan_needs.proofs.Remembering.{same_device, same_held}
 use Rattle.chan_needs.proofs.Staying.{needs_stay}
 use Rattle.chanv_c.specs.declared.c_job.CJob.{CJob}
-use Rattle.chanv_c.specs.Needs.{AreNeedsOf, AreNeedsWhereHeld, with_areas}
+use Rattle.chanv_c.specs.Needs.{AreNeedsOf, AreNeedsWhereHeld, IsJudgedOpenly, IsOpenJobFor, with_areas}
 
 -- the needs over one storage are those over each that is as long and holds the kept bytes
 pub where_held : (c : CJob) (n : Listed) (r : Remarks) (kept : List ℕ)
@@ -27,6 +32,13 @@ where_held c n r kept h held k start device len holds =
       device = same_device j.device k.device (asked.device ∙ sym device);
     } in
     needs_stay j k n keeps h.needs
+
+-- the verdict of the survey of the open job
+abbrev pub judged_openly : (c : CJob) (opened : Job) (v w : Verdict) (is : IsOpenJobFor c opened)
+    → ((v : Verdict) → IsVerdict opened v ↔ IsVerdict (open_job is.job) v) → v ≡ w → IsAnswer opened w → IsJudgedOpenly c v
+judged_openly c opened v w is verdict same answer =
+    let told = subst (IsAnswer opened) (sym same) answer in
+    record { opened = opened; is_open = is; answer = told; verdict = (verdict v).0 told.verdict }
 
 -- ---- copying
 

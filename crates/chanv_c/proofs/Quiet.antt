@@ -9,7 +9,8 @@ use Rattle.ccw_core.specs.declared.areas.Area.{Area}
 use Rattle.ccw_core.specs.Areas.{lies_in}
 use Rattle.ccw_core.specs.Ccw.{byte}
 use Rattle.ccw_core.proofs.Covering.{lies_in-nil}
-use Rattle.chan_areas.specs.Merged.{IsByteOf}
+use Rattle.chan_areas.specs.Merged.{AreExactly, IsByteOf}
+use Rattle.chan_walk.specs.Verdict.{IsVerdict}
 use Rattle.chan_areas.proofs.Merging.{exactly_one, lies_in-cases}
 use Rattle.chan_walk.specs.Job.{storage_of}
 use Rattle.chan_walk.specs.declared.job.Job.{Job}
@@ -22,11 +23,9 @@ use Rattle.chan_walk.proofs.Algorithms.OneVerdict.{one_verdict}
 use Rattle.chan_walk.proofs.Algorithms.Opened.{open_job_is_open}
 use Rattle.chan_needs.specs.Needs.{IsKept, KeepsProgram}
 use Rattle.chan_needs.specs.Remembered.{HoldsAreas, IsInside}
-use Rattle.chan_needs.specs.Listed.{AreNeeds, Listed}
-use Rattle.chan_needs.proofs.Inside.{keep_inside}
-use Rattle.chan_needs.proofs.Remembering.{same_device}
-use Rattle.chan_needs.proofs.Staying.{holds_over, needs_stay, reached_same}
-use Rattle.chan_why.specs.declared.remarks.Remarks.{Remarks}
+use Rattle.chan_needs.proofs.Inside.{kept_inside}
+use Rattle.chan_needs.proofs.Remembering.{kept_same, same_device, yes_open}
+use Rattle.chan_needs.proofs.Staying.{holds_over, reached_same}
 use Rattle.chanv_c.specs.declared.c_job.CJob.{CJob}
 use Rattle.chanv_c.specs.declared.refusal.Refusal.{Refusal}
 use Rattle.chanv_c.specs.declared.refusal.Refusal.TheVariants.{Memory, TooManyPlaces, Wrong}
@@ -35,7 +34,7 @@ use Rattle.chanv_c.specs.declared.refusal.JobFault.{JobFault}
 use Rattle.chanv_c.specs.declared.refusal.JobFault.TheVariants.{StorageTooLarge, NotADevice, NotAMask, NoExtent, ExtentBackwards, ExtentPastDevice, NotALimit}
 use Rattle.chanv_c.specs.Faults.{HasJobFault, HasNoFault}
 use Rattle.chanv_c.specs.Job.{IsAskedJob, extents_asked}
-use Rattle.chanv_c.specs.Needs.{AreNeedsOf, AsksOverCopy, HasTooManyOpenly, KeepsOtherAreas, with_area, with_areas}
+use Rattle.chanv_c.specs.Needs.{AreKeptOf, AsksOverCopy, HasTooManyOpenly, KeepsOtherAreas, with_area, with_areas}
 
 -- areas of storage s
 module _ (s : List ℕ) where
@@ -75,17 +74,17 @@ module _ (s : List ℕ) where
           or_held first (inl of) = inr (held_one a copy b long first (inl of))
           or_held first (inr later) = inl later
 
--- the program of c was found to need this, and what it keeps is copied
-module _ (c : CJob) (n : Listed) (r : Remarks) (areas : List Area) (old copy : List ℕ) (found : AreNeedsOf c n r) (keep : areas ≡ n.keep)
+-- the program of c was found to keep these areas, and what it keeps is copied
+module _ (c : CJob) (areas : List Area) (old copy : List ℕ) (found : AreKeptOf c areas)
     (long : (length old ≡ length c.storage.now) × (length copy ≡ length old)) (copied : copy ≡ with_areas c.storage.now areas old) where
   abbrev j : Job
   j = found.judged.is_open.job
 
   copy_held : (b : ℕ) → lies_in areas b ≡ true → byte copy b ≡ byte c.storage.now b
   copy_held b h =
-      let there = subst (λ (s : List ℕ). All (IsInside s) n.keep) found.judged.is_open.asked.storage (keep_inside j n found.needs) in
+      let there = subst (λ (s : List ℕ). All (IsInside s) areas) found.judged.is_open.asked.storage (kept_inside j areas found.keep) in
       ap (λ (s : List ℕ). byte s b) copied
-      ∙ held_all c.storage.now areas old b long.0 (subst (λ (l : List Area). All (IsInside c.storage.now) l) (sym keep) there) (inl h)
+      ∙ held_all c.storage.now areas old b long.0 there (inl h)
 
   -- storage holds what the copy holds
   pub copy_agrees : (kept : List ℕ) → HoldsAreas copy areas kept → HoldsAreas c.storage.now areas kept
@@ -106,15 +105,20 @@ module _ (c : CJob) (n : Listed) (r : Remarks) (areas : List Area) (old copy : L
         storage = record {
           same_length = ap (λ (s : List ℕ). length s) there ∙ over.same_length ∙ sym (ap (λ (s : List ℕ). length s) here);
           same = λ b is_kept. ap (λ (s : List ℕ). byte s b) there
-              ∙ copy_held b (subst (λ (l : List Area). lies_in l b ≡ true) (sym keep) ((found.needs.keep.bytes b).1 is_kept))
+              ∙ copy_held b ((found.keep.bytes b).1 is_kept)
               ∙ sym (ap (λ (s : List ℕ). byte s b) here);
         };
         start = found.judged.is_open.asked.start ∙ sym (asked.start ∙ over.start);
         device = same_device j.device k.device (found.judged.is_open.asked.device ∙ sym (asked.device ∙ over.device));
       }
 
-      stay : AreNeeds k n
-      stay = needs_stay j k n keeps found.needs
+      stays_yes : IsVerdict (open_job k) Yes
+      stays_yes = yes_open j k keeps found.judged.verdict
+
+      stay : AreExactly (IsKept k) areas
+      stay =
+          let same = kept_same j k keeps found.judged.verdict in
+          record { merged = found.keep.merged; bytes = λ b. ((λ l. (same b).0 ((found.keep.bytes b).0 l)), λ g. (found.keep.bytes b).1 ((same b).1 g)) }
 
     no_refusal : (e : Refusal) → HasNoFault d → e ≢ Memory → IsRefusal (HasTooManyOpenly d) d e → ⊥
     no_refusal Memory right not is = not refl
@@ -126,7 +130,7 @@ module _ (c : CJob) (n : Listed) (r : Remarks) (areas : List Area) (old copy : L
             let k = many.is_open.job in
             let there = (open_job_is_open k many.opened many.is_open.is_open).0 in
             let here = (open_job_is_open j found.judged.opened found.judged.is_open.is_open).0 in
-            let same = reached_same j k (keeps k many.is_open.asked) found.needs.verdict in
+            let same = reached_same j k (keeps k many.is_open.asked) found.judged.verdict in
             let limit : found.judged.opened.limit ≡ d.limit = found.judged.is_open.is_open.limit ∙ found.judged.is_open.asked.limit ∙ sym over.limit in
             few_among found.judged.opened many.opened d.limit (λ p r. (here p).1 ((same p).1 ((there p).0 r)))
             (subst (HasAtMost found.judged.opened) limit found.judged.answer.few) many.many
@@ -138,10 +142,10 @@ module _ (c : CJob) (n : Listed) (r : Remarks) (areas : List Area) (old copy : L
     keeps_these right (inl h) = no_refusal h.0 right h.1 h.2
     keeps_these right (inr (inl h)) =
         let k = h.2.is_open.job in
-        yes_is_no (one_verdict (open_job k) Yes (No h.0 h.1) (stay k h.2.is_open.asked).verdict h.2.verdict)
+        yes_is_no (one_verdict (open_job k) Yes (No h.0 h.1) (stays_yes k h.2.is_open.asked) h.2.verdict)
     keeps_these right (inr (inr h)) =
         let k = h.2.judged.is_open.job in
-        h.3 (exactly_one (IsKept k) h.0.keep n.keep h.2.needs.keep (stay k h.2.judged.is_open.asked).keep ∙ sym keep)
+        h.3 (exactly_one (IsKept k) h.0.keep areas h.2.needs.keep (stay k h.2.judged.is_open.asked))
 
 -- a job over a copy that is as long has no fault either
 right_over : (c d : CJob) → length d.storage.now ≡ length c.storage.now → d.device ≡ c.device → d.mask ≡ c.mask
@@ -158,9 +162,9 @@ right_over c d long device mask extents limit right f h = right f (there f h)
     there NotALimit h = rw limit at h
 
 -- so over quiet storage the program keeps no other areas
-pub nothing_changed : (c : CJob) (n : Listed) (r : Remarks) (areas : List Area) (old copy : List ℕ) {d : CJob} → AreNeedsOf c n r → areas ≡ n.keep
+pub nothing_changed : (c : CJob) (areas : List Area) (old copy : List ℕ) {d : CJob} → AreKeptOf c areas
     → (length old ≡ length c.storage.now) × (length copy ≡ length old) → copy ≡ with_areas c.storage.now areas old → KeepsOtherAreas d areas
     → AsksOverCopy c copy d → HasNoFault c → d.mask ≡ c.mask → extents_asked d ≡ extents_asked c → ⊥
-nothing_changed c n r areas old copy {d = d} found keep long copied others over right mask extents =
-    keeps_these c n r areas old copy found keep long copied d over
+nothing_changed c areas old copy {d = d} found long copied others over right mask extents =
+    keeps_these c areas old copy found long copied d over
     (right_over c d (ap (λ (s : List ℕ). length s) over.storage ∙ over.same_length) over.device mask extents over.limit right) others

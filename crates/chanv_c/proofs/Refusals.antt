@@ -85,7 +85,7 @@ refusal_number crowded c (Wrong f) is =
 
 -- what was found of a job without a fault is told, unless memory is refused
 pub needs_number : (crowded : Type 0) (c : CJob) (n extent : ℕ) → HasNoFault c → n ≢ codes.CHANGED_MEANWHILE
-    → (n ≡ codes.YES) ⊎ (n ≡ codes.MEMORY) ⊎ (n ≡ codes.NO_ROOM) ⊎ (n ≡ codes.CHANGED_MEANWHILE) → IsAnswerCode crowded c n extent
+    → (n ≡ codes.YES) ⊎ (n ≡ codes.NO) ⊎ (n ≡ codes.MEMORY) ⊎ (n ≡ codes.NO_ROOM) ⊎ (n ≡ codes.CHANGED_MEANWHILE) → IsAnswerCode crowded c n extent
 needs_number crowded c n extent right quiet code = search (rules, right, quiet, code)
 
 -- under a job without a fault only memory can be refused

@@ -7,6 +7,7 @@ use Rattle.chan_needs.specs.Remembered.{device_number}
 use Rattle.chan_needs.specs.Listed.{pair}
 use Rattle.chanv_c.specs.declared.c_job.CJob.{CJob}
 use Rattle.chanv_c.specs.declared.c_job.ReadyJob.{ReadyJob}
+use Rattle.chanv_c.specs.declared.codes.TheConstants as codes
 
 -- the extents that C names, as pairs
 abbrev pub extents_asked : CJob → List (ℕ × ℕ)
@@ -22,6 +23,10 @@ pub record IsAskedJob (c : CJob) (j : Job) : Type 0 where
   pub fetch : fetch_of j ≡ c.fetch.now
   pub store : store_of j ≡ c.store.now
   pub limit : j.limit ≡ c.limit
+
+-- the job of a call that counts no places: whatever limit C names, it has the usual limit
+abbrev pub uncounted : CJob → CJob
+uncounted c = record c { limit = codes.USUAL_LIMIT }
 
 -- two jobs agree in every field
 pub record AreEqualJobs (j k : Job) : Type 0 where

@@ -1,8 +1,7 @@
--- What the answers to C about starts, about writes of others and about kept bytes promise.
+-- What the answers to C about starts and about writes of others promise.
 use Rattle.std.specs.Prelude.{◌≡◌, ℕ, List, Some}
 use Rattle.std.specs.List.{All}
 use Rattle.ccw_core.specs.declared.areas.Area.{Area}
-use Rattle.chan_areas.specs.Merged.{IsLeastOf}
 use Rattle.chan_walk.specs.declared.job.Job.{Job}
 use Rattle.chan_needs.specs.declared.layout.Remembered.{Remembered}
 use Rattle.chan_needs.specs.declared.conflict.Conflict.TheVariants as way
@@ -11,7 +10,7 @@ use Rattle.chan_needs.specs.declared.start.StartRefusal.TheVariants as why
 use Rattle.chan_needs.specs.declared.start.Start.{Start}
 use Rattle.chan_needs.specs.declared.start.Start.TheVariants as answer
 use Rattle.chan_needs.specs.Needs.{Grants, KeepsProgram}
-use Rattle.chan_needs.specs.Remembered.{HoldsKept, IsKeeperOf, IsKeptOutside, IsRemembered}
+use Rattle.chan_needs.specs.Remembered.{HoldsKept, IsKeeperOf, IsRemembered}
 use Rattle.chan_needs.specs.Start.{IsAnswerOf, IsCompatibleWith, IsFit, StartsWell}
 use Rattle.chanv_c.specs.declared.c_job.CJob.{CJob}
 use Rattle.chanv_c.specs.declared.checks.CRefusal.{CRefusal}
@@ -47,10 +46,10 @@ StartsIfDue c p fs Answered =
 
 -- ---- what is told
 
--- a refusal's number, and an address or a cylinder; no program is named
+-- a refusal's number, and an address or a cylinder; no row is named
 abbrev pub refused : ℕ → ℕ → CRefusal
 refused code value =
-    record { extent = 0; program = codes.NOBODY; code = code; value = value }
+    record { extent = 0; row = codes.NOBODY; code = code; value = value }
 
 -- nothing but which extent is wrong
 abbrev pub no_refusal_for_c : ℕ → CRefusal
@@ -67,9 +66,9 @@ refusal_for_c (why.Cylinder c) = refused codes.REFUSED_NO_CYLINDER c
 refusal_for_c (why.Fetch b) = refused codes.REFUSED_NOT_FETCHABLE b
 refusal_for_c (why.Store b) = refused codes.REFUSED_NOT_STORABLE b
 refusal_for_c (why.Conflict i (way.Stores b)) =
-    record (refused codes.REFUSED_STORES_OVER_KEPT b) { program = i }
+    record (refused codes.REFUSED_STORES_OVER_KEPT b) { row = i }
 refusal_for_c (why.Conflict i (way.Keeps b)) =
-    record (refused codes.REFUSED_KEEPS_STORED_OVER b) { program = i }
+    record (refused codes.REFUSED_KEEPS_STORED_OVER b) { row = i }
 
 -- what is told with an answer
 abbrev pub start_for_c : Start → CRefusal
@@ -81,18 +80,13 @@ abbrev pub start_code : Start → ℕ
 start_code answer.Yes = codes.YES
 start_code (answer.No r) = codes.NO
 
--- ---- who may write, and who keeps what
+-- ---- who may write
 
 -- what is told of the first that keeps a byte, and of the least such byte
 abbrev pub keeper_for_c : ℕ → ℕ → CRefusal
-keeper_for_c i b = record (refused codes.REFUSED_WRITES_OVER_KEPT b) { program = i }
+keeper_for_c i b = record (refused codes.REFUSED_WRITES_OVER_KEPT b) { row = i }
 
 -- others may not write: this is told of the first that keeps a byte of the area
 abbrev pub IsWriteRefused : List Remembered → Area → CRefusal → Type 0
 IsWriteRefused fs a out =
     (i : ℕ) × (b : ℕ) × IsKeeperOf fs a (Some (i, b)) × (out ≡ keeper_for_c i b)
-
--- the program keeps bytes outside the areas: this is told of the least
-abbrev pub KeepsOutsideFor : Remembered → List Area → CRefusal → Type 0
-KeepsOutsideFor p areas out =
-    (b : ℕ) × IsLeastOf (IsKeptOutside p areas) b × (out ≡ refused codes.REFUSED_KEEPS_OUTSIDE b)

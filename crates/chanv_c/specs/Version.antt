@@ -1,6 +1,6 @@
 -- The version of the library.
 use Rattle.std.specs.Prelude.{ℕ, ◌+◌, ◌*◌}
 
--- 0.8.0: its three numbers, 65,536 times the first, 256 times the second, and the third
+-- 1.0.0: its three numbers, 65,536 times the first, 256 times the second, and the third
 abbrev pub version : ℕ
-version = 65536 * 0 + 256 * 8 + 0
+version = 65536 * 1 + 256 * 0 + 0

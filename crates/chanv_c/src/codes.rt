@@ -1,5 +1,6 @@
-//! The numbers of the header, by its names without `CHANV_`: what calls return, and why a program
-//! may not start, others may not write, or a program keeps too much; and the index of nobody.
+//! The numbers of the header, by its names without `CHANV_`: what calls return; why a program isn't
+//! taken in or may not start, or others may not write; what a program may be allowed; the index of
+//! nobody; and the usual limit.
 
 pub(crate) const YES: u32 = 0;
 
@@ -51,4 +52,18 @@ pub(crate) const REFUSED_WRITES_OVER_KEPT: u32 = 11;
 
 pub(crate) const REFUSED_KEEPS_OUTSIDE: u32 = 12;
 
+pub(crate) const REFUSED_MAY_HANG: u32 = 13;
+
+pub(crate) const REFUSED_INTERRUPTS: u32 = 14;
+
+pub(crate) const REFUSED_ENDS_CHAINING: u32 = 15;
+
+pub(crate) const ALLOW_HANGING: u32 = 1;
+
+pub(crate) const ALLOW_INTERRUPTING: u32 = 2;
+
+pub(crate) const ALLOW_ENDING_CHAINS: u32 = 4;
+
 pub(crate) const NOBODY: usize = usize::MAX;
+
+pub(crate) const USUAL_LIMIT: u32 = 4096;

@@ -23,7 +23,7 @@ mod why;
 pub use crate::c_evidence::CEvidence;
 pub use crate::c_job::CJob;
 pub use crate::c_place::CPlace;
-pub use crate::checks::{CRefusal, chanv_check_kept, chanv_check_start, chanv_check_write};
+pub use crate::checks::{CRefusal, chanv_check_start, chanv_check_write};
 pub use crate::find::{CBytes, chanv_find};
 pub use crate::library_version::chanv_version;
 pub use crate::list::chanv_list;

@@ -8,6 +8,6 @@ ghost use Rattle.chanv_c.specs.Version.{version};
 pub extern "C" fn chanv_version() -> u32
     ensures { result ≡ version }
 {
-    let (first, second, third) = (0, 8, 0);
+    let (first, second, third) = (1, 0, 0);
     65536 * first + 256 * second + third
 }

@@ -4,13 +4,14 @@ ghost use Rattle.std.specs.Prelude.{◌≡◌, ◌≢◌, ◌<◌, ℕ, List, le
 ghost use Rattle.std.specs.Prelude.{MatchOption, OnOk};
 ghost use Rattle.chanv_c.specs.Answers.{IsAnswerCode, IsRefusal};
 ghost use Rattle.chanv_c.specs.Faults.{HasNoFault};
+ghost use Rattle.chanv_c.specs.Job.{uncounted};
 ghost use Rattle.chanv_c.specs.Needs.{StandFirst};
 ghost use Rattle.chanv_c.specs.Prefix.{HasNoPrefixAt, IsPrefixFor};
 ghost use Rattle.chanv_c.specs.declared.codes.TheConstants.{NO, NO_ROOM, YES};
 
 use crate::c_job::{CJob, make_ready};
 use crate::c_place::write_list;
-use crate::codes::{NO, NO_ROOM, YES};
+use crate::codes::{NO, NO_ROOM, USUAL_LIMIT, YES};
 use crate::refusal::Refusal;
 use chan_needs::prefix_at;
 use std::alloc::Global;
@@ -19,7 +20,8 @@ use std::alloc::Global;
 /// `YES` if there is room for it, `NO_ROOM` if there isn't; then `len` is how many bytes it has.
 /// `NO` if it can't stand there: the address isn't a multiple of 8, or the prefix or the program's
 /// start reaches past storage. Otherwise it says why there is no answer, like `chanv_verify`; it
-/// counts no places. But for `YES` and `NO_ROOM` `len` is 0. `bytes` is written only for `YES`.
+/// counts no places, so the job's limit doesn't matter. But for `YES` and `NO_ROOM` `len` is 0.
+/// `bytes` is written only for `YES`.
 #[unsafe(no_mangle)]
 pub extern "C" fn chanv_make_prefix(
     alloc: Global,
@@ -28,17 +30,23 @@ pub extern "C" fn chanv_make_prefix(
     bytes: &mut [u8],
     len: &mut usize,
 ) -> u32
-    ensures made { result ≡ YES → (prefix : List ℕ) × IsPrefixFor job.now address prefix
+    ensures made { result ≡ YES → (prefix : List ℕ)
+        × IsPrefixFor (uncounted job.now) address prefix
         × (len.new ≡ length prefix) × StandFirst prefix bytes.old bytes.new }
-    ensures room { result ≡ NO_ROOM → (prefix : List ℕ) × IsPrefixFor job.now address prefix
+    ensures room { result ≡ NO_ROOM → (prefix : List ℕ)
+        × IsPrefixFor (uncounted job.now) address prefix
         × (len.new ≡ length prefix) × (length bytes.old < len.new) }
-    ensures none { result ≡ NO → HasNoPrefixAt job.now address }
+    ensures none { result ≡ NO → HasNoPrefixAt (uncounted job.now) address }
     ensures left { result ≢ YES → bytes.new ≡ bytes.old }
-    ensures number { (extent : ℕ) × IsAnswerCode ⊥ job.now result extent }
+    ensures number { (extent : ℕ) × IsAnswerCode ⊥ (uncounted job.now) result extent }
     ensures no_len { result ≢ YES → result ≢ NO_ROOM → len.new ≡ 0 }
 {
     *len = 0;
-    let prefix = match prefix_on(alloc, job, address) {
+    let uncounted = CJob {
+        limit: USUAL_LIMIT,
+        ..*job
+    };
+    let prefix = match prefix_on(alloc, &uncounted, address) {
         Ok(Some(prefix)) => prefix,
         Ok(None) => return NO,
         Err(refusal) => return refusal.code(),

@@ -31,6 +31,7 @@ fn options(choices: &[u8], start: u32, job: RequestedJob) -> ImageOptions {
             _ => u32::from(at),
         },
         size: if kind & 16 == 0 { None } else { Some(0x1000 + 16 * u32::from(size)) },
+        gaps: Vec::new(Global),
         job,
     }
 }

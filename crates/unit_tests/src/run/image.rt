@@ -50,6 +50,7 @@ fn options(alloc: Global, job: RequestedJob) -> Option<ImageOptions> {
         fetch: vec![in alloc; area].ok()?,
         store: Vec::new(alloc),
         at: 0x7FE,
+        gaps: Vec::new(alloc),
         size: None,
         job,
     })

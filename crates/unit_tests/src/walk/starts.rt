@@ -4,7 +4,7 @@ use crate::shared::expect;
 use crate::walk::program::{Program, Question, SEARCH_LOOP, USUAL, holds};
 use ccw_core::{Area, Storage};
 use chan_needs::{
-    Conflict, Extent, NeedLists, Remembered, Start, StartRefusal, check_start, check_write,
+    Conflict, Extent, NeedLists, Remembered, Row, Start, StartRefusal, check_start, check_write,
     copy_kept, kept_len, or_empty,
 };
 use chan_walk::Job;
@@ -14,13 +14,13 @@ fn area(start: u32, len: u32) -> Area {
     Area { start, len }
 }
 
-/// A program in flight that stores into some areas and keeps others.
-fn flight<'a>(store: &'a [Area], keep: &'a [Area]) -> Remembered<'a> {
-    Remembered {
+/// A row in flight whose program keeps some areas, and which stores over an area itself.
+fn row<'a>(keep: &'a [Area], stores: Area) -> Row<'a> {
+    let program = Remembered {
         needs: NeedLists {
             extents: &[],
             fetch: &[],
-            store,
+            store: &[],
             keep,
             storage_len: 0,
             mask: 0x01,
@@ -28,6 +28,11 @@ fn flight<'a>(store: &'a [Area], keep: &'a [Area]) -> Remembered<'a> {
         kept: &[],
         start: 0,
         device: 0,
+    };
+    Row {
+        program,
+        stores,
+        keeps: area(0, 0),
     }
 }
 
@@ -71,8 +76,8 @@ pub(crate) fn is_answered(alloc: Global, job: &Job, right: usize, answer: Start)
     };
     let keep = if right > 8 { 0xC00 } else { 0xA4F };
     let keeps = [area(keep, 8)];
-    let stores = [area(if right > 9 { 0xC00 } else { 0x817 }, 2)];
-    let others = [flight(&[], &[]), flight(&stores, &keeps)];
+    let stores = area(if right > 9 { 0xC00 } else { 0x817 }, 2);
+    let others = [row(&[], area(0, 0)), row(&keeps, stores)];
     check_start(alloc, job, &program, &others) == Ok(answer)
         && check_write(&others, area(keep + 7, 0xFFFF_FFFF)) == Some((1, keep + 7))
         && check_write(&others, area(keep - 1, 1)) == None

@@ -1,22 +1,11 @@
 -- What the survey of the open job says is said of what C asks about.
-use Rattle.std.proofs.Common.{ap, Err, sym, subst, ◌≡◌, ◌↔◌, ◌∙◌}
-use Rattle.chan_walk.specs.declared.job.Job.{Job}
-use Rattle.chan_walk.specs.declared.verdict.Verdict.{Verdict}
+use Rattle.std.proofs.Common.{ap, Err, sym, subst, ◌∙◌}
 use Rattle.chan_walk.specs.declared.verdict.Verdict.TheVariants.{Yes, No}
-use Rattle.chan_walk.specs.Answers.{IsAnswer}
-use Rattle.chan_walk.specs.OpenJob.{open_job}
 use Rattle.chan_walk.specs.Places.{HasMoreThan}
-use Rattle.chan_walk.specs.Verdict.{IsVerdict}
-use Rattle.chanv_c.specs.declared.c_job.CJob.{CJob}
-use Rattle.chanv_c.specs.Needs.{HasTooManyOpenly, IsJudgedOpenly, IsOpenJobFor}
+use Rattle.chanv_c.specs.Needs.{HasTooManyOpenly}
+use Rattle.chanv_c.proofs.Copies.{judged_openly}
 use Rattle.chanv_c.proofs.Refusals.{walk_refused}
 use Rattle.chanv_c.proofs.take_in.needs_of.Goals as goal
-
-abbrev judged : (c : CJob) (opened : Job) (v w : Verdict) (is : IsOpenJobFor c opened) → ((v : Verdict) → IsVerdict opened v ↔ IsVerdict (open_job is.job) v)
-    → v ≡ w → IsAnswer opened w → IsJudgedOpenly c v
-judged c opened v w is verdict same answer =
-    let told = subst (IsAnswer opened) (sym same) answer in
-    record { opened = opened; is_open = is; answer = told; verdict = (verdict v).0 told.verdict }
 
 pub returns-in_err-survey-clause-refusal : goal.returns-in_err-survey-clause-refusal
 returns-in_err-survey-clause-refusal c =
@@ -36,7 +25,7 @@ returns-in-Yes-clause-answer c =
     let job = c.job-job.result in
     let opens = c.job-opened.ensures.«open» job c.in_ok-open.ensures in
     record {
-      judged = judged c.args.asked.now c.job-opened.result Yes _ (record { job = job; asked = c.job-job.ensures; is_open = opens })
+      judged = judged_openly c.args.asked.now c.job-opened.result Yes _ (record { job = job; asked = c.job-job.ensures; is_open = opens })
           (c.job-opened.ensures.verdict job c.in_ok-open.ensures) (sym c.in-Yes.is ∙ c.verdict.ensures) c.in_ok-survey.ensures.answer;
       needs = c.in_ok-needs-in-Yes.ensures job opens.program;
       remarks = c.in_ok-remarks_from-in-Yes.ensures c.job-opened.result c.in_ok-survey.ensures.survey;
@@ -46,5 +35,5 @@ pub returns-clause-answer : goal.returns-clause-answer
 returns-clause-answer c =
     let job = c.job-job.result in
     let opens = c.job-opened.ensures.«open» job c.in_ok-open.ensures in
-    judged c.args.asked.now c.job-opened.result (No c.in-No.address c.in-No.reason) _ (record { job = job; asked = c.job-job.ensures; is_open = opens })
+    judged_openly c.args.asked.now c.job-opened.result (No c.in-No.address c.in-No.reason) _ (record { job = job; asked = c.job-job.ensures; is_open = opens })
     (c.job-opened.ensures.verdict job c.in_ok-open.ensures) (sym c.in-No.is ∙ c.verdict.ensures) c.in_ok-survey.ensures.answer

@@ -6,7 +6,7 @@ use Rattle.chan_deck.proofs.SameLemmas.{same_areas_is}
 use Rattle.chan_deck.specs.SameDecks.{same_areas, same_areas-IsEquivalence}
 use Rattle.ccw_core.specs.declared.areas.Area.{Area}
 use Rattle.chan_needs.specs.Remembered.{HoldsAreas, IsInside, bytes_in, total_len}
-use Rattle.chan_needs.proofs.Inside.{keep_inside}
+use Rattle.chan_needs.proofs.Inside.{kept_inside}
 use Rattle.chan_needs.specs.Listed.{listed, pair}
 use Rattle.chanv_c.specs.Needs.{IsFoundNeeds, StandFirst, extent_for_c}
 use Rattle.chanv_c.proofs.Copies.{where_held}
@@ -38,6 +38,7 @@ returns-clause-yes c = λ _.
         needs = listed c.in-Ok-Needed.needs;
         remarks = c.in-Ok-Needed.remarks;
         found = record { needs = needs; out_is = c.needs_for_c-found.ensures };
+        is_allowed = rw c.in_default-refusal.is at c.in-Ok.ensures;
         extents = subst (λ (l : List Extent). StandFirst l c.args.extents.now c.write_list.new.room)
             (c.as_slice-2.ensures.value ∙ sym (extents_of_pairs c.in-Ok-Needed.needs.extents.items)) c.write_list.ensures;
         fetch = subst (λ (l : List Area). StandFirst l c.args.fetch.now c.write_list-2.new.room) c.as_slice-3.ensures.value c.write_list-2.ensures;
@@ -55,7 +56,7 @@ pub copy_kept_bytes-requires-clause-inside : goal.copy_kept_bytes-requires-claus
 copy_kept_bytes-requires-clause-inside c =
     let found = subst (IsFoundNeeds c.args.still.now) c.in-Ok-Needed.field-0-is c.in-Ok-Needed.ensures.answer in
     let opened = found.judged.is_open in
-    let inside = keep_inside opened.job (listed c.in-Ok-Needed.needs) found.needs in
+    let inside = kept_inside opened.job c.in-Ok-Needed.needs.keep.items found.needs.keep in
     let asked = subst (λ (s : List ℕ). All (IsInside s) c.in-Ok-Needed.needs.keep.items) opened.asked.storage inside in
     subst (λ (l : List Area). All (IsInside c.args.still.now.storage.now) l) (sym c.as_slice-6.ensures.value) asked
 
