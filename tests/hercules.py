@@ -5,7 +5,7 @@ what another program may store into change. It compares each answer with the ans
 put anew to storage as it stands. A header that leaves something out has to give a wrong answer. The
 CCWs that the assembler makes of demo.s are compared with its lines.
 
-The module itself is built with the headers of the source that HERCULES_TARBALL names, and loaded
+The module itself is built with the headers of the source in the folder HERCULES_SOURCE, and loaded
 into the Hercules that is installed. Each case there says which programs start on which disks, which
 commands follow, and what has to be logged. A module that leaves something out has to fail a case.
 What can't be tried is left out, by its name.
@@ -403,14 +403,11 @@ def check_headers(checks, library, room, source):
 
 def check_module(checks, library, room):
     missing = [name for name in ("hercules", "dasdinit", ASSEMBLER) if not shutil.which(name)]
-    tarball = os.environ.get("HERCULES_TARBALL")
-    if missing or not tarball:
-        checks.skip("the module in Hercules", f"no {' or '.join(missing) or 'HERCULES_TARBALL'}")
+    source = os.environ.get("HERCULES_SOURCE")
+    if missing or not source:
+        checks.skip("the module in Hercules", f"no {' or '.join(missing) or 'HERCULES_SOURCE'}")
         return
-    source = room / "source"
-    ran = run(FOLDER / "fetch.sh", source, Path(tarball).absolute(), timeout=MOST_SECONDS)
-    checks.expect("fetch.sh", (0, ""), (ran.status, ran.error))
-    to = room / "built"
+    source, to = Path(source).absolute(), room / "built"
     checks.expect("make hercules", 0, make_module(library, source, to, FOLDER).status)
     check_missing(checks, library, room, source)
     check_headers(checks, library, room, source)
