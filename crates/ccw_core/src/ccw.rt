@@ -10,9 +10,10 @@ ghost use Rattle.ccw_core.specs.Group.{group_of};
 ghost use Rattle.ccw_core.specs.declared.group.Group.TheVariants.{Transfer};
 ghost use Rattle.ccw_core.specs.declared.ccw.TheConstants.{STORAGE_LIMIT};
 
-use crate::digits::{push_ascii, write_digits};
+use crate::digits::doubleword_digits;
 use crate::flags::{CcwFlags, flag_letters};
 use crate::group::Group;
+use crate::text::Text;
 use bitflags::Flags;
 use byteorder::{BigEndian, ByteOrder};
 use std::alloc::{AllocError, Global};
@@ -196,20 +197,18 @@ impl Ccw {
     /// Adds the CCW to a text: `code address flags spare count group`, with one space between two
     /// parts and no end of line.
     #[tactic(auto, unfolding(hex::specs::Hex::encode_with))]
-    pub fn push_text(&self, out: &mut String) -> Result<(), AllocError>
-        ensures { OnOk result (string_bytes out.new ≡ string_bytes out.old ++ ccw_text self.now) }
+    pub fn push_text<T: Text>(&self, out: &mut T) -> Result<(), AllocError>
+        ensures { OnOk result (T.written out.new ≡ T.written out.old ++ ccw_text self.now) }
     {
         let bytes = self.to_bytes();
-        let mut digits = [0u8; 16];
-        write_digits(&bytes, &mut digits);
-        let [a, b, c, d, e, f, g, h, _, _, i, j, k, l, m, n] = digits;
+        let [a, b, c, d, e, f, g, h, _, _, i, j, k, l, m, n] = doubleword_digits(&bytes);
         let [cd, cc, sli, skip, pci, low] = flag_letters(bytes[4]);
         let text = [
             a, b, b' ', c, d, e, f, g, h, b' ', cd, cc, sli, skip, pci, low, b' ', i, j, b' ', k,
             l, m, n, b' ',
         ];
-        push_ascii(out, &text)?;
-        out.push_str(Group::of(bytes[0]).word())
+        out.add_ascii(&text)?;
+        out.add_word(Group::of(bytes[0]).word())
     }
 
     /// The CCW as text. An error means that an allocation failed.

@@ -18,6 +18,17 @@ pub fn write_digits(bytes: &[u8], digits: &mut [u8])
     }
 }
 
+/// The digits of eight bytes. It isn't inlined: by itself it makes all sixteen digits capitals at
+/// once.
+#[inline(never)]
+pub(crate) fn doubleword_digits(bytes: &[u8; 8]) -> [u8; 16]
+    ensures { result ≡ encode_upper bytes.now }
+{
+    let mut digits = [0u8; 16];
+    write_digits(bytes, &mut digits);
+    digits
+}
+
 /// Whether a small letter is among these characters.
 #[inline(always)]
 fn has_small_letter(characters: &[u8]) -> bool

@@ -16,6 +16,7 @@ mod digits;
 mod flags;
 mod group;
 mod storage;
+mod text;
 mod watched;
 
 pub use crate::areas::{Area, covers, gap_among};
@@ -24,4 +25,5 @@ pub use crate::digits::{push_ascii, read_digits, write_digits};
 pub use crate::flags::{CcwFlags, FLAG_LETTERS};
 pub use crate::group::Group;
 pub use crate::storage::{Storage, TooLarge};
+pub use crate::text::Text;
 pub use crate::watched::{DeviceFault, Watched, write_out};

@@ -9,8 +9,8 @@ ghost use Rattle.ccw_core.specs.Storage.{ccw_at};
 ghost use Rattle.chan_deck.specs.Listing as list;
 ghost use Rattle.chan_walk.specs.Job.{storage_of};
 
-use crate::verdict_line::{push_address, push_verdict, verdict_text};
-use ccw_core::{Ccw, DeviceFault, Watched, write_out};
+use crate::verdict_line::{push_address, verdict_text};
+use ccw_core::{Ccw, DeviceFault, Text, Watched, write_out};
 use chan_walk::{Entry, Explored, Job, Look, Place, Verdict};
 use ckd_core::{Command, lookup};
 use std::alloc::{AllocError, Global};
@@ -100,21 +100,21 @@ pub(crate) fn name_of(entered: Entry, ccw: &Ccw, command: Option<Command>) -> &'
 }
 
 /// Adds the CCW at a place and its name to a text, or `no-ccw` where none stands.
-fn push_word(
-    out: &mut String,
+fn push_word<T: Text>(
+    out: &mut T,
     entered: Entry,
     ccw: Option<Ccw>,
     command: Option<Command>,
 ) -> Result<(), AllocError>
-    ensures { OnOk result (string_bytes out.new
-        ≡ string_bytes out.old ++ list.word_text entered ccw (option_map entry_of command)) }
+    ensures { OnOk result (T.written out.new
+        ≡ T.written out.old ++ list.word_text entered ccw (option_map entry_of command)) }
 {
     let Some(ccw) = ccw else {
-        return out.push_str("no-ccw");
+        return out.add_word("no-ccw");
     };
     ccw.push_text(out)?;
-    out.push_str(" ")?;
-    out.push_str(name_of(entered, &ccw, command))
+    out.add_word(" ")?;
+    out.add_word(name_of(entered, &ccw, command))
 }
 
 /// The text of a CCW and the name of the command that begins there, as a row of a listing has them,
@@ -131,36 +131,36 @@ pub fn ccw_line(alloc: Global, ccw: Ccw) -> Result<String, AllocError>
 
 /// Adds the row of a place to a text without its line feed, given the CCW that stands there and the
 /// command of its code.
-pub(crate) fn push_words(
-    out: &mut String,
+pub(crate) fn push_words<T: Text>(
+    out: &mut T,
     place: Place,
     ccw: Option<Ccw>,
     command: Option<Command>,
     marked: bool,
 ) -> Result<(), AllocError>
-    ensures { OnOk result (string_bytes out.new
-        ≡ string_bytes out.old ++ list.row_words place ccw (option_map entry_of command) marked) }
+    ensures { OnOk result (T.written out.new
+        ≡ T.written out.old ++ list.row_words place ccw (option_map entry_of command) marked) }
 {
     push_address(out, place.address)?;
-    out.push_str(" ")?;
-    out.push_str(way_word(place.entered))?;
-    out.push_str(marks_between(place.after_transfer, marked))?;
+    out.add_word(" ")?;
+    out.add_word(way_word(place.entered))?;
+    out.add_word(marks_between(place.after_transfer, marked))?;
     push_word(out, place.entered, ccw, command)
 }
 
 /// Adds the row of a place with its line feed in the same way.
-fn push_row(
-    out: &mut String,
+fn push_row<T: Text>(
+    out: &mut T,
     place: Place,
     ccw: Option<Ccw>,
     command: Option<Command>,
     marked: bool,
 ) -> Result<(), AllocError>
-    ensures { OnOk result (string_bytes out.new
-        ≡ string_bytes out.old ++ list.row_with place ccw (option_map entry_of command) marked) }
+    ensures { OnOk result (T.written out.new
+        ≡ T.written out.old ++ list.row_with place ccw (option_map entry_of command) marked) }
 {
     push_words(out, place, ccw, command, marked)?;
-    out.push('\n')
+    out.add_word("\n")
 }
 
 /// The CCW that stands at an address, and the command of its code.
@@ -270,22 +270,20 @@ pub fn write_listing<W: Write>(
 /// The listing of a job that was judged: a row for each of its reachable places, in order, and then
 /// the line of its verdict, as `write_listing` writes them. Nothing is looked at again. An error
 /// means that an allocation failed.
-pub fn listing_text(alloc: Global, looks: &[Look], verdict: Verdict) -> Result<String, AllocError>
-    ensures { IfOk result (λ t. string_bytes t ≡ list.seen_listing looks.now verdict) }
+pub fn listing_text(alloc: Global, looks: &[Look], verdict: Verdict) -> Result<Vec<u8>, AllocError>
+    ensures { IfOk result (λ t. t.items ≡ list.seen_listing looks.now verdict) }
 {
-    let mut text = String::new(alloc);
+    let mut text = Vec::new(alloc);
     for look in looks {
         push_look(&mut text, look, verdict)?;
     }
-    push_verdict(&mut text, verdict)?;
-    text.push('\n')?;
+    text.extend_from_slice(verdict_text(alloc, verdict)?.as_bytes())?;
     Ok(text)
 }
 
 /// Adds the row of what a look showed, marked where the verdict names its address.
-fn push_look(out: &mut String, look: &Look, verdict: Verdict) -> Result<(), AllocError>
-    ensures { OnOk result (string_bytes out.new
-        ≡ string_bytes out.old ++ list.seen_row verdict look.now) }
+fn push_look(out: &mut Vec<u8>, look: &Look, verdict: Verdict) -> Result<(), AllocError>
+    ensures { OnOk result (out.new.items ≡ out.old.items ++ list.seen_row verdict look.now) }
 {
     let place = look.place();
     let marked = is_named(verdict, place.address);

@@ -4,7 +4,7 @@ ghost use Rattle.std.specs.Prelude.{◌≡◌, ◌++◌, IfOk, OnOk, string_byte
 ghost use Rattle.chan_deck.specs.VerdictLine as text;
 
 use crate::deck_digits::number_digits;
-use ccw_core::{Area, STORAGE_LIMIT, push_ascii};
+use ccw_core::{Area, STORAGE_LIMIT, Text};
 use chan_walk::Verdict;
 use std::alloc::{AllocError, Global};
 use std::fmt;
@@ -25,17 +25,16 @@ impl fmt::Display for Range {
 }
 
 /// Adds an address to a text, in six digits, or as many as it needs.
-pub(crate) fn push_address(out: &mut String, address: u32) -> Result<(), AllocError>
-    ensures { OnOk result (string_bytes out.new
-        ≡ string_bytes out.old ++ text.address_text address) }
+pub(crate) fn push_address<T: Text>(out: &mut T, address: u32) -> Result<(), AllocError>
+    ensures { OnOk result (T.written out.new ≡ T.written out.old ++ text.address_text address) }
 {
     let digits = number_digits(address);
     if address < STORAGE_LIMIT {
-        push_ascii(out, &digits[2..])
+        out.add_ascii(&digits[2..])
     } else if address < 1 << 28 {
-        push_ascii(out, &digits[1..])
+        out.add_ascii(&digits[1..])
     } else {
-        push_ascii(out, &digits)
+        out.add_ascii(&digits)
     }
 }
 

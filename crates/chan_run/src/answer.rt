@@ -99,7 +99,7 @@ fn list_output(
         return text_under(alloc, naming, listing.as_bytes());
     }
     let listing = listing_text(alloc, looks.as_slice(), verdict)?;
-    text_under(alloc, naming, listing.as_bytes())
+    text_under(alloc, naming, listing.as_slice())
 }
 
 /// The explanation of the verdict, or of the offence at an address, after the name of the input.

@@ -1,5 +1,5 @@
-use Rattle.chan_deck.proofs.Names.{flat_map, seen_row, string_bytes, take, ◌≡◌}
+use Rattle.chan_deck.proofs.Names.{flat_map, seen_row, take, ◌≡◌}
 use Rattle.chan_deck.proofs.listing.listing_text.Given as goal
 
 abbrev pub invariant-loop-look : goal.invariant-loop-look
-invariant-loop-look l = string_bytes l.text ≡ flat_map (seen_row l.verdict) (take l.look-index l.looks)
+invariant-loop-look l = l.text.items ≡ flat_map (seen_row l.verdict) (take l.look-index l.looks)

@@ -12,7 +12,7 @@ returns c =
     let ls = c.into_parts-looks.result.0.items in
     let are = c.into_parts-looks.ensures.places j c.requires in
     let looks = c.into_parts-looks.ensures.looks j c.requires in
-    let text = c.as_bytes-2.ensures.value ∙ rw c.as_slice.ensures.value at c.in_ok-listing-2.ensures in
+    let text = c.as_slice-2.ensures.value ∙ rw c.as_slice.ensures.value at c.in_ok-listing-2.ensures in
     rw (c.if-wide.false, ← c.verdict-verdict.ensures)
     (IfOk-weaker c.text_under-2.result _ _ (λ headed is.
     (places_of_looks ls, are, is ∙ ap (λ t. heading_of c.args.naming ++ t) (text ∙ listing_seen j v ls looks)))
