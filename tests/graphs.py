@@ -6,11 +6,13 @@ Of each example and of 500 other jobs: the rows are exactly the places that the 
 from transfers without a fault; each arrow is a successor, through such a transfer or not; each
 successor has its arrow, is the next row of its box, or is a search that a transfer repeats; and the
 pink boxes are exactly the places that offend, with their reasons. An arrow within a box begins and
-ends at its rows, one that leads back ends at the row that it leads to, and one that says `stores over` leads from the row that stores to the row of the
-CCW or of a CCW that takes the argument. The title has the verdict, the grants and the notes, a row
-says what its CCW does with its data, what it sets and what stores over it, the arrow from `start`
-leads to the first row of a box, the boxes of one address, and no others, are in its frame, and the
-boxes from which the program never ends, and no others, say so.
+ends at its rows, one that leads back ends at the row that it leads to, and one that says `stores
+over` leads from the row that stores to the row of the CCW or of a CCW that takes the argument, and
+says `for the next run` exactly if no arrows lead from that row to this address. The title has the
+verdict, the grants and the notes, a row says what its CCW does with its data, what it sets and what
+stores over it, the arrow from `start` leads to the first row of a box, the boxes of one address,
+and no others, are in its frame, and the boxes from which the program never ends, and no others, say
+so.
 """
 
 import re
@@ -80,6 +82,7 @@ MOVES = re.compile(
 )
 SETTING = re.compile(r"  (\((?:cylinder|mask) [^)]*\))")
 STORED = re.compile(r"  stored over by (\w+)$")
+STORES = re.compile(r'label=" stores over( for the next run)? "')
 REPORTED = re.compile(r"(, SLI)?(, PCI)?(?:  until found .*)?(?:  stored over .*)?$")
 PINK, YELLOW, ENDLESS = "#FFE9E9", "#FFF6D5", "never ends by itself"
 
@@ -217,6 +220,15 @@ class Wanted:
             [(row, _, _)] = self.arrows[row]
         return row
 
+    def behind(self, row):
+        """The rows to which a row leads by one arrow or more."""
+        found, left = set(), [row]
+        while left:
+            targets = {target for target, *_ in self.arrows[left.pop()]} - found
+            found |= targets
+            left += targets
+        return found
+
     def fault(self, row):
         """The own fault of its places, which is the same for all."""
         return next(fault for place, fault in self.faults.items() if self.row(place) == row)
@@ -263,8 +275,8 @@ class Drawn:
             ends = (source, source_cell), (target, target_cell)
             if target.startswith("end "):
                 self.ends.append(source)
-            elif "stores over" in style:
-                self.stores.append((*ends, "dotted" in style))
+            elif label := STORES.search(style):
+                self.stores.append((*ends, "dotted" in style, bool(label[1])))
             else:
                 through = re.search(r"TIC at (\w+)", style)
                 through = int(through[1], 16) if through else None
@@ -410,16 +422,27 @@ def check_stores(checks, name, wanted, drawn):
     for row in wanted.rows:
         rows = [{wanted.first_at(one) for one in over} for over in wanted.stored_over(row)]
         ways = {tuple(dict.fromkeys(filter(None, way))) for way in product(*rows)}
-        stores = [target for source, target, _ in drawn.stores if source == cells[row]]
+        stores = [target for source, target, *_ in drawn.stores if source == cells[row]]
         which = [tuple(cells[one] for one in way) for way in ways]
         checks.expect_that(f"what {row} of {name} stores over", tuple(stores) in which, stores)
     checks.expect_that(
         f"arrows of {name} for what is stored over are dotted",
-        all(is_dotted for *_, is_dotted in drawn.stores),
+        all(is_dotted for *_, is_dotted, _ in drawn.stores),
         drawn.stores,
     )
     sources = {source for source, *_ in drawn.stores}
     checks.expect_that(f"rows of {name} store", sources <= {*cells.values()}, sources)
+
+
+def check_past(checks, name, wanted, drawn):
+    """An arrow says that what is stored is for the next run, if none leads to that address."""
+    rows = {cell: row for row, cell in boxes_and_cells(wanted, drawn).items()}
+    for source, target, _, is_past in drawn.stores:
+        if target[1] != "more":
+            led = {row.address for row in wanted.behind(rows[source])}
+            is_told = len(drawn.boxes) <= MOST_LABELLED
+            wanted_past = is_told and rows[target].address not in led
+            checks.expect(f"whether {source} of {name} is past {target}", wanted_past, is_past)
 
 
 def check_arrows(checks, name, wanted, drawn):
@@ -473,6 +496,7 @@ def check_picture(checks, deck, job, text, notes):
     check_frames(checks, name, drawn)
     check_arrows(checks, name, wanted, drawn)
     check_stores(checks, name, wanted, drawn)
+    check_past(checks, name, wanted, drawn)
     return drawn
 
 
@@ -547,7 +571,7 @@ def jobs_of(room):
 
 def check(checks, built):
     # how many arrows lead to each kind of cell, each of which some picture has
-    within, over, told = Counter(), Counter(), Counter()
+    within, over, past, told = Counter(), Counter(), Counter(), Counter()
     with tempfile.TemporaryDirectory() as room:
         for deck, job in jobs_of(room):
             faults = reachable(job)
@@ -560,7 +584,8 @@ def check(checks, built):
             notes = [line for line in said if line.startswith("note: ")]
             drawn = check_picture(checks, deck, job, ran.output, notes)
             within.update(cell != "" for (_, cell), *_ in drawn.arrows)
-            over.update(cell == "more" for _, (_, cell), _ in drawn.stores)
+            over.update(cell == "more" for _, (_, cell), *_ in drawn.stores)
+            past.update(is_past for *_, is_past in drawn.stores)
             told["notes"] += bool(notes)
             told["endless"] += bool(drawn.endless)
             told["settings"] += any(drawn.settings.values())
@@ -572,4 +597,5 @@ def check(checks, built):
         check_names(checks, built.chanv(), Path(room))
     checks.expect_that("arrows within boxes, and between them", len(within) == 2, within)
     checks.expect_that("rows stored over, drawn and left out", len(over) == 2, over)
+    checks.expect_that("rows that a run is past, and others", len(past) == 2, past)
     checks.expect_that("each thing that a picture tells comes", all(told.values()), told)

@@ -1,5 +1,5 @@
 -- Upper-case hexadecimal digits: how many there are, and when the first is a zero.
-use Rattle.chan_deck.proofs.Names.{[], AllByRecursion, ap, arith, drop, encode_upper, encode_with, IsByte, IsBytes, length, List, not, refl, slice_index, suc, sym, true, upper_digits, zero, ℕ, ◌%◌, ◌*◌, ◌/◌, ◌<◌, ◌==◌, ◌∷◌, ◌≡◌}
+use Rattle.chan_deck.proofs.Names.{[], AllByRecursion, ap, arith, drop, encode_upper, encode_with, IsByte, IsBytes, length, List, not, refl, slice_index, suc, sym, upper_digits, zero, ℕ, ◌*◌, ◌/◌, ◌<◌, ◌==◌, ◌∷◌, ◌≡◌}
 use Rattle.hex.proofs.HexLemmas.{length-encode_with}
 use Rattle.ccw_core.proofs.UpperDigits.{passes}
 

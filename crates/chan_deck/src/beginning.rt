@@ -168,8 +168,12 @@ fn push_beginning(
 /// count if its transfer leads to a CCW as the image stands: it may belong there.
 fn search_loops(alloc: Global, at: u32, image: &[u8]) -> Result<Vec<SearchLoop>, AllocError> {
     let mut found = Vec::new(alloc);
-    for offset in 0..image.len() {
-        if let Some(target) = loop_target(&image[offset..]) {
+    for (offset, code) in image.get(8..).unwrap_or(&[]).iter().enumerate() {
+        // most bytes aren't the code of the transfer, which follows the eight bytes of the search
+        if code % 16 != 8 {
+            continue;
+        }
+        if let Some(target) = image.get(offset..).and_then(loop_target) {
             let fits_here = target.checked_sub(at) == u32::try_from(offset).ok();
             if fits_here || !leads_to_ccw(image, at, target) {
                 push_loop(&mut found, offset, target, image.len())?;
@@ -197,9 +201,7 @@ fn push_loop(
     Ok(())
 }
 
-/// Where the transfer leads that follows a search, if these bytes begin with the two. The transfer
-/// comes first, because most bytes aren't the code of one.
-#[inline(always)]
+/// Where the transfer leads that follows a search, if these bytes begin with the two.
 fn loop_target(bytes: &[u8]) -> Option<u32> {
     let transfer = Ccw::from_bytes(bytes.get(8..)?.first_chunk()?);
     if !transfer.is_transfer() || transfer.address() % 8 != 0 {

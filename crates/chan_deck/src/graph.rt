@@ -13,8 +13,8 @@ use crate::explanation::push_setting;
 use crate::listing::{name_of, transfer_word, way_word};
 use crate::note_lines::notes_on;
 use crate::picture_layout::{
-    Arrow, Layout, MOST_ROWS, Row, Scene, arrow_to, first_row, indices_at, is_left_out_of,
-    layout_of, row_at, shown_of,
+    Arrow, Layout, MOST_ROWS, Row, Scene, arrow_to, arrows_to_boxes, boxes_behind, first_row,
+    indices_at, is_left_out_of, layout_of, row_at, shown_of,
 };
 use crate::verdict_line::{Range, push_verdict};
 use chan_walk::{
@@ -566,21 +566,32 @@ fn changed_at(cause: Evidence) -> Option<u32> {
     }
 }
 
+/// Whether the boxes to which a row leads have no row at this address.
+fn is_past(layout: &Layout, looks: &[Look], behind: &[usize], address: u32) -> bool {
+    let first = looks.partition_point(|look| look.place().address < address);
+    let end = looks.partition_point(|look| look.place().address <= address);
+    let is_behind = |at| layout.head(at).is_some_and(|head| behind.contains(&head));
+    !(first..end).any(is_behind)
+}
+
 /// Adds the red arrows from the row of a place to those of what it stores over, one to each.
+/// `between` has the arrows that lead to boxes; none, if there are too many boxes.
 fn push_changes(
     alloc: Global,
     out: &mut String,
     picture: &Picture,
     scene: Scene<'_>,
     layout: &Layout,
+    between: &[(usize, usize)],
     at: usize,
-    place: Place,
 ) -> Result<(), AllocError> {
-    let Some(from) = row_of(picture.looks, layout, at) else {
+    let looks = scene.looks;
+    let (Some(look), Some(from)) = (looks.get(at), row_of(looks, layout, at)) else {
         return Ok(());
     };
+    let behind = boxes_behind(alloc, between, at)?;
     let mut last: Option<usize> = None;
-    for (_, cause) in &offences_at(alloc, picture, place)? {
+    for (_, cause) in &offences_at(alloc, picture, look.place())? {
         let Some(address) = changed_at(*cause) else {
             continue;
         };
@@ -589,11 +600,17 @@ fn push_changes(
             continue;
         }
         last = row;
-        if let Some(to) = row.and_then(|at| row_of(picture.looks, layout, at)) {
+        if let Some(to) = row.and_then(|at| row_of(looks, layout, at)) {
+            let is_told = layout.boxes <= MOST_LABELLED;
+            let whose = if is_told && is_past(layout, looks, &behind, address) {
+                " for the next run"
+            } else {
+                ""
+            };
             write!(
                 out,
                 "  {from} -> {to} [style=dotted, color=\"#B00000\", fontcolor=\"#B00000\", \
-                 penwidth=1.5, constraint=false, label=\" stores over \"];\n"
+                 penwidth=1.5, constraint=false, label=\" stores over{whose} \"];\n"
             )?;
         }
     }
@@ -610,6 +627,10 @@ fn push_arrows(
     layout: &Layout,
 ) -> Result<(), AllocError> {
     let looks = scene.looks;
+    let mut between = Vec::new(alloc);
+    if !picture.offences.is_empty() && layout.boxes <= MOST_LABELLED {
+        between = arrows_to_boxes(alloc, scene, layout)?;
+    }
     for at in 0..looks.len() {
         let (Some(row), Some(from)) = (row_at(scene, at), node_of(looks, layout, at)) else {
             continue;
@@ -623,7 +644,7 @@ fn push_arrows(
                  margin=0.03];\n  \"{from}\" -> \"end {from}\";\n"
             )?;
         }
-        push_changes(alloc, out, picture, scene, layout, at, row.look.place())?;
+        push_changes(alloc, out, picture, scene, layout, &between, at)?;
     }
     Ok(())
 }
@@ -635,7 +656,8 @@ fn push_arrows(
 /// A transfer in channel is a label on the arrow through it, unless something is stored over it. A
 /// place that offends is alone in a pink box, with its reasons and their causes; after a yes, boxes
 /// from which the program never ends by itself are yellow. A dashed arrow is taken if a search
-/// finds, and a dotted one leads from a row to the row that it stores over.
+/// finds, and a dotted one leads from a row to the row that it stores over; it says so if only the
+/// next run would come to that row.
 pub fn graph_text(
     alloc: Global,
     name: Option<&str>,

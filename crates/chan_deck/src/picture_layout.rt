@@ -324,3 +324,58 @@ fn share_boxes(
     }
     Ok(())
 }
+
+/// The arrows that lead to boxes: of each the row that begins the box where it begins, in order,
+/// and the row to which it leads.
+pub(crate) fn arrows_to_boxes(
+    alloc: Global,
+    scene: Scene<'_>,
+    layout: &Layout,
+) -> Result<Vec<(usize, usize)>, AllocError> {
+    let mut arrows = Vec::new(alloc);
+    for at in 0..scene.looks.len() {
+        let (Some(row), Some(head)) = (row_at(scene, at), layout.head(at)) else {
+            continue;
+        };
+        for arrow in [row.next, row.skip] {
+            if let Some(arrow) = arrow.filter(|arrow| layout.head(arrow.to) == Some(arrow.to)) {
+                arrows.push((head, arrow.to))?;
+            }
+        }
+    }
+    Ok(arrows)
+}
+
+/// The rows that begin the boxes to which a box leads by one arrow or more.
+pub(crate) fn boxes_behind(
+    alloc: Global,
+    arrows: &[(usize, usize)],
+    head: usize,
+) -> Result<Vec<usize>, AllocError> {
+    let mut behind = Vec::new(alloc);
+    push_behind(&mut behind, arrows, head)?;
+    // each arrow adds one box at most
+    for next in 0..arrows.len() {
+        let Some(head) = behind.get(next).copied() else {
+            return Ok(behind);
+        };
+        push_behind(&mut behind, arrows, head)?;
+    }
+    Ok(behind)
+}
+
+/// Adds the boxes to which a box leads by one arrow, unless they are there.
+fn push_behind(
+    behind: &mut Vec<usize>,
+    arrows: &[(usize, usize)],
+    head: usize,
+) -> Result<(), AllocError> {
+    let first = arrows.partition_point(|(from, _)| *from < head);
+    let end = arrows.partition_point(|(from, _)| *from <= head);
+    for (_, to) in arrows.get(first..end).unwrap_or(&[]) {
+        if !behind.contains(to) {
+            behind.push(*to)?;
+        }
+    }
+    Ok(())
+}
