@@ -20,8 +20,14 @@ takes at most 12 instructions for each row. So is a picture of 65,536 places, wi
 arrows: a search from the first place on for each takes more. So is a verdict on 4,096 places whose
 addresses are chosen to share lists: if the walk did not make more lists early, it would take three
 quarters more instructions. So is a verdict on 65,410 places at 21,800 doublewords side by side: if
-those of 512 bytes shared a list, it would take almost four times as many. valgrind counts the
-instructions; without it this part is left out, by its name.
+those of 512 bytes shared a list, it would take almost four times as many.
+
+RATIOS holds what chanv takes of what bench/limit.c takes, a verifier by hand in C, over decks of
+bench/ and in calls of the library, and CALLS holds the calls that it doesn't have. Both are the
+figures of the proved program and a few percent more. limit.c gives the answers of chanv over
+decks of examples/, refused decks and random jobs, so that it does the same work.
+
+valgrind counts the instructions; without it this part is left out, by its name.
 """
 
 import concurrent.futures
@@ -37,7 +43,10 @@ import tempfile
 from importlib import util
 from pathlib import Path
 
-from building import HERE, ROOT, compile_with
+from building import HERE, ROOT, compile_with, is_proved
+from examples import FOLDERS, TEXTS, decks_of
+from model import JOBS, SEED, deck_of, jobs_of
+from refused_decks import refused
 from running import run, text_of
 
 # the deck, the command, the seconds, and the status
@@ -116,6 +125,35 @@ LONG_WORDS = [
     ("list", "--wide", 500, 4),
     ("", "find", 500, 4),
 ]
+
+# the most times the instructions of bench/limit.c, and the most of calls that it doesn't have
+RATIOS = {
+    "verify places-65536": 3.80,
+    "verify chain-65536": 3.80,
+    "verify comb-65536": 4.54,
+    "verify scattered-65536": 5.81,
+    "verify areas-apart-65536": 3.55,
+    "verify extents": 4.56,
+    "verify full-storage": 3.83,
+    "list places-65536": 3.55,
+    "list chain-65536": 3.49,
+    "list comb-65536": 4.70,
+    "list scattered-65536": 5.36,
+    "find in 16 MiB of zeros": 16.70,
+    "find in 16 MiB of noise": 17.34,
+    "chanv_verify, 1 place": 5.34,
+    "chanv_verify, 8 places": 4.37,
+    "chanv_verify, 64 places": 3.73,
+}
+CALLS = {
+    "chanv_take_in, 1 place": 14_500,
+    "chanv_take_in, 8 places": 34_800,
+    "chanv_take_in, 64 places": 184_000,
+    "chanv_check_start, 8 places": 120_000,
+    "chanv_check_write, 8 places": 64_600,
+}
+# plain rustc's programs take up to so many times as much as the proved ones
+BY_RUSTC = 1.1
 
 # how many places `find` judges in an image, as docs/OUTPUT.md says
 PLACES_JUDGED = 16_777_216
@@ -264,6 +302,40 @@ def check_find(checks, program, room):
     checks.expect_that("find, each line", wanted == text_of(lines).splitlines(), len(wanted))
 
 
+def check_limit(checks, program, limit, room):
+    """limit.c gives the answers of chanv; why a deck is refused, chanv alone says."""
+    decks = [deck for folder in (*FOLDERS, TEXTS) for deck in decks_of(folder)]
+    texts = [text for text, *_ in refused()]
+    for job in jobs_of(random.Random(SEED), JOBS):
+        texts.append("".join(f"{line}\n" for line in deck_of(job)).encode())
+    for number, text in enumerate(texts):
+        decks.append(room / f"{number}.deck")
+        decks[-1].write_bytes(text)
+    for command in ("verify", "list"):
+        both = (run(it, command, *decks)._replace(error="") for it in (program, limit))
+        checks.expect(f"limit.c, {command} over {len(decks)} decks", *both)
+
+
+def check_ratios(checks, built, room):
+    bench, program, library = of_bench("ratios"), built.chanv(), built.library()
+    check_limit(checks, program, bench.compiled_limit(room), room)
+    more = [1 if is_proved(it) else BY_RUSTC for it in (program, library)]
+    limits = {**RATIOS, **CALLS}
+
+    def measure(asked):
+        return asked, bench.are_right(asked), bench.instructions(asked)
+
+    with concurrent.futures.ThreadPoolExecutor(2) as beside:
+        measured = [*beside.map(measure, bench.all_asked(program, library, room))]
+    for asked, is_right, (count, *of_limit) in measured:
+        checks.expect_that(f"{asked.name}, the answers", is_right, "other answers")
+        most = more[asked.is_call] * limits.pop(asked.name, 0)
+        seen = count / of_limit[0] if of_limit else count
+        kind = "times the instructions of limit.c" if of_limit else "instructions"
+        checks.expect_that(f"{asked.name}, at most {most:g} {kind}", 0 < seen <= most, f"{seen:g}")
+    checks.expect("limits of what isn't measured", [], [*limits])
+
+
 def check(checks, built):
     program, decks = built.chanv(), decks_of_bench()
     has_valgrind = shutil.which("valgrind") is not None
@@ -274,6 +346,7 @@ def check(checks, built):
     with tempfile.TemporaryDirectory() as room:
         if has_valgrind:
             check_instructions(checks, built, decks, Path(room))
+            check_ratios(checks, built, Path(room))
         check_find(checks, program, Path(room))
     with tempfile.TemporaryDirectory() as room:
         for name, command, most, wanted in BOUNDS:
