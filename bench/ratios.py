@@ -37,7 +37,7 @@ CALLS = [("verify", "limit", places) for places in (1, 8, 64)]
 CALLS += [("take_in", "", places) for places in (1, 8, 64)]
 CALLS += [("check_start", "", 8), ("check_write", "", 8)]
 # one call costs what so many cost more than one, divided
-COUNTED, TIMED = 11, 2_001
+COUNTED, TIMED = 11, 20_001
 
 
 class Asked(NamedTuple):

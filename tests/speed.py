@@ -128,32 +128,32 @@ LONG_WORDS = [
 
 # the most times the instructions of bench/limit.c, and the most of calls that it doesn't have
 RATIOS = {
-    "verify places-65536": 3.80,
-    "verify chain-65536": 3.80,
-    "verify comb-65536": 4.54,
-    "verify scattered-65536": 5.81,
-    "verify areas-apart-65536": 3.55,
-    "verify extents": 4.56,
-    "verify full-storage": 3.83,
-    "list places-65536": 3.55,
-    "list chain-65536": 3.49,
-    "list comb-65536": 4.70,
-    "list scattered-65536": 5.36,
-    "find in 16 MiB of zeros": 16.70,
-    "find in 16 MiB of noise": 17.34,
-    "chanv_verify, 1 place": 5.34,
-    "chanv_verify, 8 places": 4.37,
-    "chanv_verify, 64 places": 3.73,
+    "verify places-65536": 4.12,
+    "verify chain-65536": 4.11,
+    "verify comb-65536": 4.97,
+    "verify scattered-65536": 6.22,
+    "verify areas-apart-65536": 3.68,
+    "verify extents": 4.67,
+    "verify full-storage": 4.58,
+    "list places-65536": 3.67,
+    "list chain-65536": 3.53,
+    "list comb-65536": 6.39,
+    "list scattered-65536": 6.81,
+    "find in 16 MiB of zeros": 14.44,
+    "find in 16 MiB of noise": 15.16,
+    "chanv_verify, 1 place": 5.42,
+    "chanv_verify, 8 places": 4.68,
+    "chanv_verify, 64 places": 3.96,
 }
 CALLS = {
-    "chanv_take_in, 1 place": 14_500,
-    "chanv_take_in, 8 places": 34_800,
-    "chanv_take_in, 64 places": 184_000,
-    "chanv_check_start, 8 places": 120_000,
-    "chanv_check_write, 8 places": 64_600,
+    "chanv_take_in, 1 place": 13_500,
+    "chanv_take_in, 8 places": 35_100,
+    "chanv_take_in, 64 places": 185_000,
+    "chanv_check_start, 8 places": 123_000,
+    "chanv_check_write, 8 places": 63_500,
 }
 # plain rustc's programs take up to so many times as much as the proved ones
-BY_RUSTC = 1.1
+BY_RUSTC = 1.2
 
 # how many places `find` judges in an image, as docs/OUTPUT.md says
 PLACES_JUDGED = 16_777_216
