@@ -23,7 +23,7 @@ from typing import NamedTuple
 
 BENCH = Path(__file__).resolve().parent
 FLAGS = ["-O3", "-march=x86-64", "-Wall", "-Wextra"]
-VALGRIND = ["valgrind", "--tool=cachegrind", "--cache-sim=no", "--cachegrind-out-file=/dev/null"]
+VALGRIND = ["valgrind", "--tool=callgrind", "--callgrind-out-file=/dev/null"]
 RUNS = 5
 
 DECKS = [f"{name}-65536" for name in ("places", "chain", "comb", "scattered", "areas-apart")]
