@@ -73,7 +73,8 @@ SOME_OF = {
 }
 
 # what begins a line of an answer whose rest is a sentence, and what numbers and flags are
-PHRASES = ["because", "stored over by", "reached by", "note", "help", "found", "expected"]
+PHRASES = ["because", "stored over by", "stores over for the next run", "reached by", "note"]
+PHRASES += ["help", "found", "expected"]
 NUMBER, FLAGS = re.compile(r"[0-9A-F]{2,8}|\d+"), re.compile(r"[D-][C-][L-][S-][P-][0-7]")
 
 # what stands for a value in the form of a cause

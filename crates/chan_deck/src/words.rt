@@ -224,7 +224,7 @@ end",
 ];
 
 /// The rows of the other words, which come after these. The checker can't read both as one table.
-pub const WORDS_IN_SHORT: [&'static str; 123] = [
+pub const WORDS_IN_SHORT: [&'static str; 124] = [
     "yes: no run of the program does harm, whatever the disk holds",
     "no: the CCW at this address offends, for this reason",
     "place: a CCW together with the way in which the program enters it",
@@ -283,6 +283,7 @@ pub const WORDS_IN_SHORT: [&'static str; 123] = [
     "clear: a place without a fault of its own",
     "fetches: in a picture, the bytes that the CCW fetches from storage",
     "stores: in a picture, the bytes that the CCW stores into storage",
+    "stores over for the next run: in a picture, this run doesn't come back to what is stored over",
     "skips: in a picture, the bytes that the CCW would store without its flag skip",
     "TIC: a transfer in channel, the channel's jump",
     "until found: the search goes on until it finds, by the transfer back to it that TIC names",
