@@ -73,8 +73,10 @@ strip.main()
 """
 
 # Folders of crates: those of Debian 12 and 13, and others; and what is missing there.
-IN_12 = "arrayvec-0.7.2 byteorder-1.4.3 clap-4.0.32 hex-0.4.3 itoa-1.0.1 strsim-0.10.0 "
-IN_13 = "arrayvec-0.7.6 byteorder-1.5.0 clap-4.5.23 hex-0.4.3 itoa-1.0.14 strsim-0.11.1 "
+IN_12 = "arrayvec-0.7.2 byteorder-1.4.3 clap-4.0.32 hex-0.4.3 itoa-1.0.1 "
+IN_12 += "smallvec-1.9.0 strsim-0.10.0 "
+IN_13 = "arrayvec-0.7.6 byteorder-1.5.0 clap-4.5.23 hex-0.4.3 itoa-1.0.14 "
+IN_13 += "smallvec-1.13.2 strsim-0.11.1 "
 ALSO = "clap_lex-0.3.0 thiserror-impl-1.0.37 hex-conservative-0.1.1"
 CRATES = [
     ("Debian 12", f"{IN_12} {ALSO} thiserror-1.0.37", None),
@@ -85,8 +87,8 @@ CRATES = [
     ("too old", f"{IN_12} thiserror-0.9.9", "no crates thiserror >=1, <3 (not 0.9.9)"),
     (
         "two crates",
-        "arrayvec-0.6.9 byteorder-1.5.0 clap-4.5.23 hex-0.4.3 itoa-1.0.14 strsim-0.9.3"
-        " strsim-0.12.0 thiserror-2.0.11",
+        "arrayvec-0.6.9 byteorder-1.5.0 clap-4.5.23 hex-0.4.3 itoa-1.0.14 smallvec-1.13.2"
+        " strsim-0.9.3 strsim-0.12.0 thiserror-2.0.11",
         "no crates arrayvec >=0.7, <0.8 (not 0.6.9); strsim >=0.10, <0.12 (not 0.12.0, 0.9.3)",
     ),
 ]

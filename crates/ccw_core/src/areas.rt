@@ -7,7 +7,7 @@ ghost use Rattle.ccw_core.specs.Areas.{IsGap, covered, lies_in};
 ///
 /// Its layout is that of C, so that a caller in C can hand in its own areas.
 #[repr(C)]
-#[derive(Clone, Copy, PartialEq, Eq)]
+#[derive(Clone, Copy, PartialEq, Eq, Default)]
 pub struct Area {
     /// The address of its first byte.
     pub start: u32,

@@ -1,11 +1,11 @@
 -- Bytes of areas, how they stay the same while areas are merged, and that there is one merged list for them.
-use Rattle.std.proofs.Common.{set, ◌^◌, ◌≡◌, ℕ, suc, ◌+◌, ◌-◌, ◌++◌, ◌↔◌, inl, inr, ◌<◌, ◌≤◌, true, ◌||◌, ◌&&◌, nat_le, nat_lt, List, [], ◌∷◌, length, get_or, take, refl, sym, ap, ◌∙◌, subst, ◌⊎◌, arith, append_assoc, IsPermutation, rules}
+use Rattle.std.proofs.Common.{set, ◌^◌, ◌≡◌, ℕ, suc, ◌+◌, ◌-◌, ◌++◌, ◌↔◌, inl, inr, ◌<◌, ◌≤◌, true, ◌||◌, ◌&&◌, nat_le, nat_lt, List, [], ◌∷◌, length, get_or, take, drop, refl, sym, ap, ◌∙◌, subst, ◌⊎◌, arith, append_assoc, IsPermutation, rules}
 use Rattle.std.proofs.lemmas.Grind.{common_steps}
 use Rattle.std.specs.Cmp.Derive.{one_truth}
-use Rattle.std.specs.List.{All}
+use Rattle.std.specs.List.{All, refill}
 use Rattle.std.specs.List.Sorted.{IsNonDecreasingBy}
 use Rattle.std.proofs.lemmas.Bool.{cases_lt, or_cases, or_left, or_right, and_from, le-leb, lt-ltb, both_ways}
-use Rattle.std.proofs.lemmas.List.{get_or-set_other, get_or_default, length-set, take_all, take_more, take_more_set}
+use Rattle.std.proofs.lemmas.List.{get_or-set_other, get_or_default, length-set, take_all, take_at, take_more, take_more_set}
 use Rattle.std.proofs.lemmas.List.Elements.{All-append, All-cons, All-head, All-nil, All-tail}
 use Rattle.std.proofs.lemmas.List.Folds.{list_any-append}
 use Rattle.std.proofs.lemmas.List.Sorted.{list_any-IsPermutation}
@@ -69,6 +69,10 @@ run_ends xs ys run area e b = ap (λ z. lies_in (z ++ area ∷ []) b) e ∙ ap (
 pub run_grows : (xs : List Area) (run area r : Area) → r.start ≡ run.start → end_of r ≡ end_of area → run.start ≤ area.start
     → area.start ≤ end_of run → end_of run ≤ end_of area → HaveSameBytes (xs ++ r ∷ []) (xs ++ run ∷ area ∷ [])
 run_grows xs run area r s e order near far b = search (rules, same_after, one_for_two, cases_lt)
+
+-- a list that takes back as many areas as it lent has these
+pub refilled : (areas given : List Area) → length given ≡ length areas → refill (length areas) areas given ≡ given
+refilled areas given e = take_at given (drop (length given) areas) (length areas) e
 
 -- the last area of a list grows
 pub last_grows : (areas : List Area) (k : ℕ) (run area r : Area) → k + 1 ≡ length areas → run ≡ get_or areas k run → IsOneRun run area r

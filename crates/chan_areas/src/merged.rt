@@ -14,8 +14,12 @@ ghost use Rattle.chan_areas.specs.Merged.{IsNextArea, Meets, MergedIsUnique, sta
 
 use crate::clip::clip;
 use ccw_core::Area;
+use smallvec::SmallVec;
 use std::alloc::{AllocError, Global};
 use std::marker::Model;
+
+/// Areas in a list, few of which take no memory.
+pub type Areas = SmallVec<Area, 4>;
 
 /// The address after an area's last byte.
 pub fn end_of(area: &Area) -> u64
@@ -28,7 +32,7 @@ pub fn end_of(area: &Area) -> u64
 /// two areas, and each ends below 2^32.
 #[derive(Drop)]
 pub struct Merged {
-    areas: Vec<Area>,
+    areas: Areas,
 }
 
 impl Model for Merged {
@@ -43,13 +47,13 @@ impl Merged {
     /// The only merged list with the bytes of these areas. Each area has to end below 2^32.
     ///
     /// It costs a sort, and no memory.
-    pub fn new(areas: Vec<Area>) -> Merged
+    pub fn new(areas: Areas) -> Merged
         requires { All (EndsBelow (2 ^ 32)) areas.items }
         ensures { AreExactly (λ b. lies_in areas.items b ≡ true) result }
     {
         let mut areas = areas;
-        areas.sort_unstable_by_key(|area| area.start);
-        merge_sorted(&mut areas);
+        let count = merge(areas.as_mut_slice());
+        areas.truncate(count);
         Merged { areas }
     }
 
@@ -59,7 +63,7 @@ impl Merged {
     pub fn clipped(alloc: Global, areas: &[Area], length: u32) -> Result<Merged, AllocError>
         ensures { IfOk result (AreExactly (λ b. (b < length) × (lies_in areas.now b ≡ true))) }
     {
-        let mut parts = Vec::new(alloc);
+        let mut parts = Areas::new(alloc);
         for area in areas {
             parts.push(clip(*area, length))?;
         }
@@ -75,12 +79,12 @@ impl Merged {
         &self.areas
     }
 
-    /// The list, by value.
-    pub fn into_areas(self) -> Vec<Area>
-        ensures areas { result.items ≡ self }
-        ensures merged { IsMerged result.items }
+    /// The list, by value. It takes memory if the list is short.
+    pub fn into_areas(self) -> Result<Vec<Area>, AllocError>
+        ensures areas { IfOk result (λ v. v.items ≡ self) }
+        ensures merged { IfOk result (λ v. IsMerged v.items) }
     {
-        self.areas
+        Ok(self.areas.into_vec()?)
     }
 
     /// The first area that ends above an address, by binary search.
@@ -158,16 +162,17 @@ impl Merged {
 
 /// Adds an area to a list that is to be merged. If it doesn't begin before the last area, and no
 /// byte lies between the two, that one grows instead: so a list in order stays short.
-pub fn add_area(areas: &mut Vec<Area>, area: Area) -> Result<(), AllocError>
+#[inline(always)]
+pub fn add_area(areas: &mut Areas, area: Area) -> Result<(), AllocError>
     requires low { All (EndsBelow (2 ^ 32)) areas.old.items }
     requires fits { EndsBelow (2 ^ 32) area }
     ensures low { OnOk result (All (EndsBelow (2 ^ 32)) areas.new.items) }
     ensures bytes { OnOk result (HaveSameBytes areas.new.items (areas.old.items ++ area ∷ [])) }
 {
-    if let Some(last) = areas.len().checked_sub(1) {
-        if areas[last].start <= area.start {
-            if let Some(run) = join(areas[last], area) {
-                areas[last] = run;
+    if let Some(last) = areas.as_mut_slice().last_mut() {
+        if last.start <= area.start {
+            if let Some(run) = join(*last, area) {
+                *last = run;
                 return Ok(());
             }
         }
@@ -204,11 +209,11 @@ fn join(run: Area, area: Area) -> Option<Area>
 }
 
 /// Merges one area more into the first runs of a list, and gives their number and the last run.
-fn merge_next(areas: &mut Vec<Area>, runs: usize, run: Area, at: usize) -> (usize, Area)
-    requires merged { (given : List Area) × AreMergedTo given areas.old.items runs run at }
-    requires within { at < length areas.old.items }
-    ensures { (given : List Area) → AreMergedTo given areas.old.items runs run at
-        → AreMergedTo given areas.new.items result.0 result.1 (at + 1) }
+fn merge_next(areas: &mut [Area], runs: usize, run: Area, at: usize) -> (usize, Area)
+    requires merged { (given : List Area) × AreMergedTo given areas.old runs run at }
+    requires within { at < length areas.old }
+    ensures { (given : List Area) → AreMergedTo given areas.old runs run at
+        → AreMergedTo given areas.new result.0 result.1 (at + 1) }
 {
     let area = areas[at];
     if let Some(joined) = join(run, area) {
@@ -219,12 +224,13 @@ fn merge_next(areas: &mut Vec<Area>, runs: usize, run: Area, at: usize) -> (usiz
 }
 
 /// Adds the last run to the others, unless it is empty, and gives their number.
-fn end_last(areas: &mut Vec<Area>, runs: usize, run: Area) -> usize
-    requires runs { AreRuns (take runs areas.old.items) run }
-    requires room { 0 < run.len → runs < length areas.old.items }
-    ensures merged { IsMerged (take result areas.new.items) }
-    ensures bytes { HaveSameBytes (take result areas.new.items)
-        (take runs areas.old.items ++ run ∷ []) }
+fn end_last(areas: &mut [Area], runs: usize, run: Area) -> usize
+    requires runs { AreRuns (take runs areas.old) run }
+    requires room { 0 < run.len → runs < length areas.old }
+    ensures merged { IsMerged (take result areas.new) }
+    ensures bytes { HaveSameBytes (take result areas.new)
+        (take runs areas.old ++ run ∷ []) }
+    ensures size { length areas.new ≡ length areas.old }
 {
     if run.len == 0 {
         return runs;
@@ -233,20 +239,32 @@ fn end_last(areas: &mut Vec<Area>, runs: usize, run: Area) -> usize
     runs + 1
 }
 
-/// Merges areas that are in order of start. The runs take the places of the areas.
-fn merge_sorted(areas: &mut Vec<Area>)
-    requires sorted { IsNonDecreasingBy start_of areas.old.items }
-    requires low { All (EndsBelow (2 ^ 32)) areas.old.items }
-    ensures merged { IsMerged areas.new.items }
-    ensures bytes { HaveSameBytes areas.new.items areas.old.items }
+/// Merges areas that are in order of start. The runs take the places of the first areas; their
+/// number is the result.
+fn merge_sorted(areas: &mut [Area]) -> usize
+    requires sorted { IsNonDecreasingBy start_of areas.old }
+    requires low { All (EndsBelow (2 ^ 32)) areas.old }
+    ensures merged { IsMerged (take result areas.new) }
+    ensures bytes { HaveSameBytes (take result areas.new) areas.old }
+    ensures size { length areas.new ≡ length areas.old }
 {
     let mut runs = 0;
     let mut run = Area { start: 0, len: 0 };
     for at in 0..areas.len() {
         (runs, run) = merge_next(areas, runs, run, at);
     }
-    let count = end_last(areas, runs, run);
-    areas.truncate(count);
+    end_last(areas, runs, run)
+}
+
+/// Merges areas in any order, each of which ends below 2^32, and gives the number of runs.
+fn merge(areas: &mut [Area]) -> usize
+    requires { All (EndsBelow (2 ^ 32)) areas.old }
+    ensures runs { AreExactly (λ b. lies_in areas.old b ≡ true) (take result areas.new) }
+    ensures low { All (EndsBelow (2 ^ 32)) (take result areas.new) }
+    ensures size { length areas.new ≡ length areas.old }
+{
+    areas.sort_unstable_by_key(|area| area.start);
+    merge_sorted(areas)
 }
 
 /// A law: two merged lists with equal bytes are equal.

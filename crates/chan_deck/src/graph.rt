@@ -676,7 +676,7 @@ pub fn graph_text(
         ..
     } = findings;
     let verdict = survey.verdict();
-    let (looks, offences) = survey.into_parts();
+    let (looks, offences) = survey.into_parts()?;
     let picture = Picture {
         name,
         job,

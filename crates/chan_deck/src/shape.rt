@@ -21,7 +21,7 @@ pub fn shape_of(alloc: Global, survey: Survey) -> Result<(String, usize), AllocE
         → IfOk result (λ shape. HasPlaceCount j shape.1) }
 {
     let names = first_names(alloc, survey.looks())?;
-    let (looks, _offences) = survey.into_parts();
+    let (looks, _offences) = survey.into_parts()?;
     let ccws = looks
         .chunk_by(|one, other| one.place().address == other.place().address)
         .filter(|run| run.first().is_some_and(|look| look.ccw().is_some()))

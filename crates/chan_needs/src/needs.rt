@@ -19,7 +19,7 @@ use crate::layout::{Extent, NeedLists};
 use crate::needed_mask::needed_mask;
 use byteorder::{BigEndian, ByteOrder};
 use ccw_core::Area;
-use chan_areas::Merged;
+use chan_areas::{Areas, Merged};
 use chan_walk::{Direction, Job, Look, Survey, data_moved, guarded_areas};
 use ckd_core::{FileMask, MaskClass};
 use std::alloc::{AllocError, Global};
@@ -76,9 +76,9 @@ pub fn needs_from(alloc: Global, job: &Job, survey: &Survey) -> Result<Needs, Al
         storage_len: job.storage.len(),
         mask: needed_mask(looks),
         extents: runs(alloc, &sought)?,
-        fetch: data_moved(alloc, looks, Direction::Fetch)?.into_areas(),
-        store: data_moved(alloc, looks, Direction::Store)?.into_areas(),
-        keep: guarded_areas(alloc, survey.guard())?.into_areas(),
+        fetch: data_moved(alloc, looks, Direction::Fetch)?.into_areas()?,
+        store: data_moved(alloc, looks, Direction::Store)?.into_areas()?,
+        keep: guarded_areas(alloc, survey.guard())?.into_areas()?,
     })
 }
 
@@ -89,7 +89,7 @@ pub fn kept_from(alloc: Global, survey: &Survey) -> Result<Vec<Area>, AllocError
         → first_verdict survey.now.offences ≡ Yes → AreOfOneProgram j k
         → AreExactly (IsKept j) v.items) }
 {
-    Ok(guarded_areas(alloc, survey.guard())?.into_areas())
+    guarded_areas(alloc, survey.guard())?.into_areas()
 }
 
 /// The cylinders that seeks go to, as a merged list in which a cylinder counts as a byte.
@@ -98,7 +98,7 @@ fn sought(alloc: Global, looks: &[Look]) -> Result<Merged, AllocError>
     ensures cylinders { IfOk result (λ m. (j : Job) → AreLooksOfYes j looks.now
         → AreExactly (IsSought j) m) }
 {
-    let mut cylinders = Vec::new(alloc);
+    let mut cylinders = Areas::new(alloc);
     for look in looks {
         add_cylinder(&mut cylinders, look)?;
     }
@@ -106,7 +106,7 @@ fn sought(alloc: Global, looks: &[Look]) -> Result<Merged, AllocError>
 }
 
 /// Adds the cylinder to which the seek at a place goes, if a seek begins there.
-fn add_cylinder(cylinders: &mut Vec<Area>, look: &Look) -> Result<(), AllocError>
+fn add_cylinder(cylinders: &mut Areas, look: &Look) -> Result<(), AllocError>
     requires { All (EndsBelow (2 ^ 16 + 1)) cylinders.old.items }
     ensures low { OnOk result (All (EndsBelow (2 ^ 16 + 1)) cylinders.new.items) }
     ensures cylinder { OnOk result ((j : Job) → IsLook j look.now → IsClear j look.now.place

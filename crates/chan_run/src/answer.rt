@@ -93,7 +93,7 @@ fn list_output(
         (first_verdict survey.offences) text.items) }
 {
     let verdict = survey.verdict();
-    let (looks, offences) = survey.into_parts();
+    let (looks, offences) = survey.into_parts()?;
     if wide {
         let listing = wide_listing(alloc, job, &looks, &offences, verdict)?;
         return text_under(alloc, naming, listing.as_bytes());

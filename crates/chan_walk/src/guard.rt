@@ -17,7 +17,7 @@ use crate::lent::{Lending, Lent};
 use crate::look::{Look, look_by};
 use crate::places::Explored;
 use ccw_core::Area;
-use chan_areas::{Merged, add_area};
+use chan_areas::{Areas, Merged, add_area};
 use std::alloc::{AllocError, Global};
 use std::marker::Model;
 
@@ -57,8 +57,8 @@ impl Guard {
         ensures { IfOk result (λ g. (j : Job) → AreLooks j looks.now
             → AreReached j (places_of_looks looks.now) → Guards j g) }
     {
-        let mut ccws = Vec::new(alloc);
-        let mut arguments = Vec::new(alloc);
+        let mut ccws = Areas::new(alloc);
+        let mut arguments = Areas::new(alloc);
         for look in looks {
             add_ccw(&mut ccws, look)?;
             add_argument(&mut arguments, look)?;
@@ -119,7 +119,7 @@ impl Guard {
 }
 
 /// Adds the bytes of the CCW at a place, where one stands there.
-pub(crate) fn add_ccw(areas: &mut Vec<Area>, look: &Look) -> Result<(), AllocError>
+pub(crate) fn add_ccw(areas: &mut Areas, look: &Look) -> Result<(), AllocError>
     requires low { All (EndsBelow (2 ^ 32)) areas.old.items }
     requires look { (j : Job) × IsLook j look.now }
     ensures low { OnOk result (All (EndsBelow (2 ^ 32)) areas.new.items) }
@@ -134,7 +134,7 @@ pub(crate) fn add_ccw(areas: &mut Vec<Area>, look: &Look) -> Result<(), AllocErr
 }
 
 /// Adds the guarded bytes of the argument that is taken at a place.
-pub(crate) fn add_argument(areas: &mut Vec<Area>, look: &Look) -> Result<(), AllocError>
+pub(crate) fn add_argument(areas: &mut Areas, look: &Look) -> Result<(), AllocError>
     requires low { All (EndsBelow (2 ^ 32)) areas.old.items }
     requires look { (j : Job) × IsLook j look.now }
     ensures low { OnOk result (All (EndsBelow (2 ^ 32)) areas.new.items) }
@@ -145,7 +145,7 @@ pub(crate) fn add_argument(areas: &mut Vec<Area>, look: &Look) -> Result<(), All
 }
 
 /// Adds the bytes at these addresses.
-fn add_bytes(areas: &mut Vec<Area>, addresses: &[u32]) -> Result<(), AllocError>
+fn add_bytes(areas: &mut Areas, addresses: &[u32]) -> Result<(), AllocError>
     requires low { All (EndsBelow (2 ^ 32)) areas.old.items }
     requires addresses { (i : ℕ) → slice_index addresses.now i < STORAGE_LIMIT }
     ensures low { OnOk result (All (EndsBelow (2 ^ 32)) areas.new.items) }

@@ -1,6 +1,6 @@
 //! What a survey of a job tells.
 
-ghost use Rattle.std.specs.Prelude.{◌≡◌, ◌↔◌, map};
+ghost use Rattle.std.specs.Prelude.{◌≡◌, ◌↔◌, map, IfOk};
 ghost use Rattle.std.specs.List.Sorted.{IsStrictlyIncreasing};
 ghost use Rattle.chan_walk.specs.Argument.{Has};
 ghost use Rattle.chan_walk.specs.PlaceTable.{IsIndexOf};
@@ -13,9 +13,10 @@ ghost use Rattle.chan_walk.specs.declared.job.Job.{Job};
 use crate::guard::Guard;
 use crate::look::Look;
 use crate::offence::Offence;
-use crate::place::{Place, order_is_by_number};
+use crate::place::Place;
 use crate::place_table::PlaceTable;
 use crate::verdict::Verdict;
+use std::alloc::AllocError;
 use std::marker::Model;
 
 /// The result of one walk over a job's reachable places: for each its look and the place that it
@@ -100,32 +101,32 @@ impl Survey {
         self.offences.as_slice()
     }
 
-    /// The looks at the places, in order of place, and all offences.
-    pub fn into_parts(self) -> (Vec<Look>, Vec<Offence>)
+    /// The looks at the places, in order of place, and all offences. It takes memory for the sort.
+    pub fn into_parts(self) -> Result<(Vec<Look>, Vec<Offence>), AllocError>
         requires { (j : Job) × IsSurvey j self }
-        ensures looks { (j : Job) → IsSurvey j self → AreLooks j result.0.items }
+        ensures looks { (j : Job) → IsSurvey j self → IfOk result (λ r. AreLooks j r.0.items) }
         ensures places { (j : Job) → IsSurvey j self
-            → AreReachable j (places_of_looks result.0.items) }
-        ensures offences { result.1.items ≡ self.offences }
+            → IfOk result (λ r. AreReachable j (places_of_looks r.0.items)) }
+        ensures offences { IfOk result (λ r. r.1.items ≡ self.offences) }
     {
         let Survey {
             looks,
             offences,
             ..
         } = self;
-        (in_order(looks), offences)
+        Ok((in_order(looks)?, offences))
     }
 }
 
-/// The same looks, in order of place.
-#[tactic(auto, using(crate::proofs::Algorithms::Sorting::same_elements))]
-fn in_order(looks: Vec<Look>) -> Vec<Look>
+/// The same looks, in order of place. The numbers of their places are sorted, because a look takes
+/// ten times as much memory.
+fn in_order(looks: Vec<Look>) -> Result<Vec<Look>, AllocError>
     requires { AreDistinct (places_of_looks looks.items) }
-    ensures ordered { IsStrictlyIncreasing (map place_number (places_of_looks result.items)) }
-    ensures same { (l : Seen) → Has result.items l ↔ Has looks.items l }
+    ensures ordered { IfOk result
+        (λ v. IsStrictlyIncreasing (map place_number (places_of_looks v.items))) }
+    ensures same { IfOk result (λ v. (l : Seen) → Has v.items l ↔ Has looks.items l) }
 {
-    order_is_by_number();
     let mut looks = looks;
-    looks.sort_unstable_by_key(|look| look.place());
-    looks
+    looks.sort_by_cached_key(|look| look.place().number())?;
+    Ok(looks)
 }

@@ -16,7 +16,7 @@ use crate::guard::Guard;
 use crate::look::Look;
 use crate::place::data_of;
 use ccw_core::Area;
-use chan_areas::{Merged, add_area};
+use chan_areas::{Areas, Merged, add_area};
 use std::alloc::{AllocError, Global};
 
 /// The bytes of the data that reachable CCWs move one way, as a merged list.
@@ -25,7 +25,7 @@ pub fn data_moved(alloc: Global, looks: &[Look], direction: Direction) -> Result
         → AreReached j (places_of_looks looks.now)
         → AreExactly (IsDataOf (moves_by direction) j) m) }
 {
-    let mut ranges = Vec::new(alloc);
+    let mut ranges = Areas::new(alloc);
     for look in looks {
         add_range(&mut ranges, look, look.moves(direction))?;
     }
@@ -33,7 +33,7 @@ pub fn data_moved(alloc: Global, looks: &[Look], direction: Direction) -> Result
 }
 
 /// Adds the data range of the CCW at a place, if the CCW moves its data.
-fn add_range(ranges: &mut Vec<Area>, look: &Look, counts: bool) -> Result<(), AllocError>
+fn add_range(ranges: &mut Areas, look: &Look, counts: bool) -> Result<(), AllocError>
     requires { All (EndsBelow (2 ^ 32)) ranges.old.items }
     ensures low { OnOk result (All (EndsBelow (2 ^ 32)) ranges.new.items) }
     ensures bytes { OnOk result (AddsBytes ranges.old.items ranges.new.items
@@ -50,7 +50,7 @@ fn add_range(ranges: &mut Vec<Area>, look: &Look, counts: bool) -> Result<(), Al
 pub fn guarded_areas(alloc: Global, guard: &Guard) -> Result<Merged, AllocError>
     ensures { IfOk result (λ m. (j : Job) → Guards j guard.now → AreExactly (IsGuarded j) m) }
 {
-    let mut areas = Vec::new(alloc);
+    let mut areas = Areas::new(alloc);
     areas.extend_from_slice(guard.ccw_ranges())?;
     areas.extend_from_slice(guard.argument_ranges())?;
     Ok(Merged::new(areas))

@@ -4,15 +4,15 @@ ghost use Rattle.std.specs.Prelude.{◌≡◌, ◌<◌, ◌^◌, ◌++◌, ◌�
 ghost use Rattle.std.specs.Prelude.{Some};
 ghost use Rattle.chan_walk.specs.Look.{places_of_looks};
 ghost use Rattle.chan_walk.specs.PlaceTable as table;
-ghost use Rattle.chan_walk.specs.PlaceTable.{FindsPlaces, IsIndexOf};
+ghost use Rattle.chan_walk.specs.PlaceTable.{FindsPlaces, IsIndexOf, ListsPlaces};
 ghost use Rattle.chan_walk.specs.declared.place.Place as places;
 
 use crate::look::Look;
 use crate::place::Place;
 use std::alloc::{AllocError, Global};
 
-/// How many lists a table has at first.
-const FEW: usize = 16;
+/// How many places a walk has room for at first. So many are found without lists.
+pub(crate) const FEW: usize = 16;
 
 /// A table gets more lists once a place was compared with more places than this.
 const LONG: usize = 64;
@@ -24,7 +24,7 @@ const MOST: usize = 262_144;
 const GOLDEN: u32 = 0x9E37_79B1;
 
 /// The places of a walk in the order in which they were found. The address of each tells in which
-/// list it is, beside a few others.
+/// list it is, beside a few others. While the places are few, there is no list.
 #[derive(Drop)]
 pub(crate) struct PlaceTable {
     /// For each list one more than the index of the last place in it; 0 if it is empty.
@@ -36,22 +36,20 @@ pub(crate) struct PlaceTable {
 
 impl PlaceTable {
     /// The table of no places.
-    pub(crate) fn new(alloc: Global) -> Result<PlaceTable, AllocError>
-        ensures { IfOk result (λ t. FindsPlaces t []) }
+    pub(crate) fn new(alloc: Global) -> PlaceTable
+        ensures { FindsPlaces result [] }
     {
-        let mut table = PlaceTable {
+        PlaceTable {
             last: Vec::new(alloc),
             before: Vec::new(alloc),
-        };
-        table.empty(FEW)?;
-        Ok(table)
+        }
     }
 
     /// Takes out all places, and makes so many lists for others.
     fn empty(&mut self, lists: usize) -> Result<(), AllocError>
         requires some { 0 < lists }
         requires few { lists < 2 ^ 32 }
-        ensures { OnOk result (FindsPlaces self.new []) }
+        ensures { OnOk result (ListsPlaces self.new []) }
     {
         self.before.clear();
         self.last.clear();
@@ -75,6 +73,9 @@ impl PlaceTable {
             (λ index. IsIndexOf (places_of_looks looks.now) place (Some index)) }
         ensures none { IfErr result (λ _. IsIndexOf (places_of_looks looks.now) place None) }
     {
+        if self.last.is_empty() {
+            return index_among(looks, place).ok_or(0);
+        }
         let mut compared = 0;
         let mut end = self.last[list_of(place.address, self.last.len())] as usize;
         while end > 0 {
@@ -99,6 +100,9 @@ impl PlaceTable {
         requires few { length looks.now < 2 ^ 31 }
         ensures { OnOk result (FindsPlaces self.new (places_of_looks looks.now ++ place ∷ [])) }
     {
+        if self.last.is_empty() && looks.len() < FEW {
+            return Ok(());
+        }
         let is_full = looks.len() >= self.last.len() || compared > LONG;
         if is_full && self.last.len() < MOST {
             self.spread(looks)?;
@@ -108,10 +112,10 @@ impl PlaceTable {
 
     /// Adds a place after the others, as the last of its list.
     fn add_last(&mut self, place: Place) -> Result<(), AllocError>
-        requires places { (ps : List places.Place) × FindsPlaces self.old ps }
+        requires places { (ps : List places.Place) × ListsPlaces self.old ps }
         requires few { length self.old.before.items < 2 ^ 31 }
-        ensures { OnOk result ((ps : List places.Place) → FindsPlaces self.old ps
-            → FindsPlaces self.new (ps ++ place ∷ [])) }
+        ensures { OnOk result ((ps : List places.Place) → ListsPlaces self.old ps
+            → ListsPlaces self.new (ps ++ place ∷ [])) }
     {
         let list = list_of(place.address, self.last.len());
         self.before.push(self.last[list])?;
@@ -119,20 +123,32 @@ impl PlaceTable {
         Ok(())
     }
 
-    /// Parts the places looked at among four times as many lists.
+    /// Parts the places looked at among four times as many lists, or makes the first.
     fn spread(&mut self, looks: &[Look]) -> Result<(), AllocError>
-        requires some { 0 < length self.old.last.items }
         requires few { length self.old.last.items < MOST }
         requires places { length looks.now < 2 ^ 31 }
-        ensures { OnOk result (FindsPlaces self.new (places_of_looks looks.now)) }
+        ensures { OnOk result (ListsPlaces self.new (places_of_looks looks.now)) }
     {
-        let lists = 4 * self.last.len();
+        let lists = 4 * self.last.len().max(FEW);
         self.empty(lists)?;
         for look in looks {
             self.add_last(look.place())?;
         }
         Ok(())
     }
+}
+
+/// The index of a place among those looked at, if it is one of them. It is compared with each.
+fn index_among(looks: &[Look], place: Place) -> Option<usize>
+    ensures { IsIndexOf (places_of_looks looks.now) place result }
+{
+    let number = place.number();
+    for index in 0..looks.len() {
+        if looks[index].place().number() == number {
+            return Some(index);
+        }
+    }
+    None
 }
 
 /// The list in which the places at an address are.

@@ -13,7 +13,7 @@ use crate::lent::{Lending, Lent};
 use crate::look::{Look, look_by};
 use crate::marks::marks_of_looks;
 use crate::place::{Place, first_place};
-use crate::place_table::PlaceTable;
+use crate::place_table::{FEW, PlaceTable};
 use crate::places::Explored;
 use crate::walk_error::WalkError;
 use std::alloc::Global;
@@ -84,7 +84,8 @@ impl Walk {
         }
     }
 
-    /// Adds the successors of the place of this index.
+    /// Adds the successors of the place of this index. It is inlined into the one loop that calls it.
+    #[inline(always)]
     fn add_successors(&mut self, job: &Job, lent: &Lent, at: usize) -> Result<(), WalkError>
         requires lent { AreLent job.now lent.now }
         requires looks { AreLooks job.now self.old.looks.items }
@@ -138,9 +139,9 @@ pub(crate) fn walk_all(alloc: Global, job: &Job) -> Result<Walk, WalkError>
     let _limit = job.limit.get();
     let lent = Lent::new(alloc, job)?;
     let mut walk = Walk {
-        looks: Vec::new(alloc),
-        found_from: Vec::new(alloc),
-        table: PlaceTable::new(alloc)?,
+        looks: Vec::with_capacity(alloc, FEW)?,
+        found_from: Vec::with_capacity(alloc, FEW)?,
+        table: PlaceTable::new(alloc),
     };
     walk.add(job, &lent, first_place(job), 0)?;
     let mut at = 0;

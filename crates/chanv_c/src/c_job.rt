@@ -51,7 +51,7 @@ fn extents_of(alloc: Global, asked: &CJob<'_>) -> Result<Extents, Refusal>
     let Ok(pairs) = pairs_of(alloc, asked.extents) else {
         return Err(Refusal::Memory);
     };
-    match Extents::new(alloc, &pairs) {
+    match Extents::from_pairs(pairs) {
         Ok(extents) => Ok(extents),
         Err(ExtentError::Empty) => Err(Refusal::Wrong(JobFault::NoExtent)),
         Err(ExtentError::Backwards(at)) => Err(Refusal::Wrong(JobFault::ExtentBackwards(at))),

@@ -93,6 +93,17 @@ impl Extents {
         Ok(Extents { pairs, held })
     }
 
+    /// Extents of these pairs, as `new` makes them. The call takes no memory, so that its error is
+    /// never `Memory`.
+    pub fn from_pairs(pairs: Vec<(u16, u16)>) -> Result<Extents, ExtentError>
+        ensures { MatchResult result (λ extents. (extents ≡ pairs.items) × AreExtents pairs.items)
+            (λ fault. IsFault pairs.items fault × (fault ≢ ExtentError.Memory)) }
+    {
+        judge(&pairs)?;
+        let held = held_cylinders(&pairs);
+        Ok(Extents { pairs, held })
+    }
+
     /// The pairs of first and last cylinder, in the caller's order.
     pub fn pairs(&self) -> &[(u16, u16)]
         ensures value { result.now ≡ self.now }

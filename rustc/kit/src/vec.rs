@@ -19,6 +19,33 @@ impl<T> Vec<T> {
         Ok(made)
     }
 
+    pub fn with_capacity(alloc: Global, room: usize) -> Result<Vec<T>, AllocError> {
+        let mut made = Vec::new(alloc);
+        made.reserve(room)?;
+        Ok(made)
+    }
+
+    /// Sorts by keys, each of which is made once.
+    pub fn sort_by_cached_key<K: Ord, F: FnMut(&T) -> K>(
+        &mut self,
+        mut key_of: F,
+    ) -> Result<(), AllocError> {
+        let mut keys = ::std::vec::Vec::new();
+        keys.try_reserve_exact(self.0.len()).map_err(|_| AllocError)?;
+        keys.extend(self.0.iter().enumerate().map(|(at, item)| (key_of(item), at)));
+        keys.sort_unstable();
+        for at in 0..keys.len() {
+            // What stood there before may have moved on.
+            let mut from = keys[at].1;
+            while from < at {
+                from = keys[from].1;
+            }
+            keys[at].1 = from;
+            self.0.swap(at, from);
+        }
+        Ok(())
+    }
+
     pub(crate) fn reserve(&mut self, more: usize) -> Result<(), AllocError> {
         self.0.try_reserve(more).map_err(|_| AllocError)
     }
@@ -134,6 +161,12 @@ impl<T> IntoIterator for Vec<T> {
 impl<T> From<Vec<T>> for ::std::vec::Vec<T> {
     fn from(items: Vec<T>) -> Self {
         items.0
+    }
+}
+
+impl<T> From<::std::vec::Vec<T>> for Vec<T> {
+    fn from(items: ::std::vec::Vec<T>) -> Self {
+        Vec(items)
     }
 }
 

@@ -13,13 +13,18 @@ use Rattle.chan_walk.proofs.Algorithms.Walking.{place_there}
 use Rattle.chan_walk.proofs.Theory.Lists.{at_has, front_at, last_at, pushed, same_at, taken_at}
 use Rattle.chan_walk.specs.declared.place_table.PlaceTable.{PlaceTable}
 use Rattle.chan_walk.specs.declared.place_table.TheConstants.{GOLDEN}
-use Rattle.chan_walk.specs.PlaceTable.{FindsPlaces, IsLastIn, list_of}
+use Rattle.chan_walk.specs.PlaceTable.{FindsPlaces, IsLastIn, list_of, ListsPlaces}
 
 pub list_within : (lists a : ℕ) → 0 < lists → list_of lists a < lists
 list_within lists a some =
     let mixed : a / 8 * GOLDEN % 2 ^ 32 < 2 ^ 32 = mod-lt (a / 8 * GOLDEN) (omega arith) in
     div_below (a / 8 * GOLDEN % 2 ^ 32 * lists) (2 ^ 32) lists (omega arith)
     (omega (arith, mul-lt-mul_of_pos_right mixed some))
+
+-- a table that has lists finds the places by them
+pub by_lists : (t : PlaceTable) (ps : List Place) → (length t.last.items ≡ 0 → ⊥) → FindsPlaces t ps → ListsPlaces t ps
+by_lists t ps some (inl none) = absurd (some none)
+by_lists t ps some (inr lists) = lists
 
 -- ---- one place more
 
@@ -46,9 +51,9 @@ last_here lists ps q list in_list = record {
     go i p le (inl s) h = absurd (omega (arith, le, slice_get_within ps i p s))
     go i p le (inr s) h = absurd (omega (arith, le, s.0))
 
-pub finds_more : (t u : PlaceTable) (ps : List Place) (q : Place) (list before : ℕ) → FindsPlaces t ps
+pub finds_more : (t u : PlaceTable) (ps : List Place) (q : Place) (list before : ℕ) → ListsPlaces t ps
     → list ≡ list_of (length t.last.items) q.address → before ≡ slice_index t.last.items list → u.before.items ≡ t.before.items ++ before ∷ []
-    → u.last.items ≡ set t.last.items list (length ps + 1) → FindsPlaces u (ps ++ q ∷ [])
+    → u.last.items ≡ set t.last.items list (length ps + 1) → ListsPlaces u (ps ++ q ∷ [])
 finds_more t u ps q list before f in_list is more written = record {
   some = omega (arith, lists, f.some);
   few = omega (arith, lists, f.few);
@@ -112,7 +117,7 @@ left_first lists ps p end l = record {
 }
 
 -- the search begins at the last place of the list
-pub left_last : (t : PlaceTable) (ps : List Place) (p : Place) (list end : ℕ) → FindsPlaces t ps → list ≡ list_of (length t.last.items) p.address
+pub left_last : (t : PlaceTable) (ps : List Place) (p : Place) (list end : ℕ) → ListsPlaces t ps → list ≡ list_of (length t.last.items) p.address
     → end ≡ get_or t.last.items list end → IsLeftBelow (length t.last.items) ps p end
 left_last t ps p list end f in_list is =
     let low : list < length t.last.items = omega (arith, in_list, list_within (length t.last.items) p.address f.some) in
@@ -120,7 +125,7 @@ left_last t ps p list end f in_list is =
     (subst (λ k. IsLastIn (length t.last.items) ps k end) in_list
     (subst (IsLastIn (length t.last.items) ps list) (sym (get_or_read t.last.items list end low is 0)) (f.last list low)))
 
-left_before : (t : PlaceTable) (ps : List Place) (p q : Place) (end : ℕ) → FindsPlaces t ps → IsLeftBelow (length t.last.items) ps p end → 0 < end
+left_before : (t : PlaceTable) (ps : List Place) (p q : Place) (end : ℕ) → ListsPlaces t ps → IsLeftBelow (length t.last.items) ps p end → 0 < end
     → slice_get ps (end - 1) ≡ Some q → (q ≡ p → ⊥)
     → IsLeftBelow (length t.last.items) ps p (slice_index t.before.items (end - 1)) × (slice_index t.before.items (end - 1) < end)
 left_before t ps p q end f l some here other = (
@@ -155,14 +160,18 @@ left_before t ps p q end f l some here other = (
 pub none_left : (lists : ℕ) (ps : List Place) (p : Place) → IsLeftBelow lists ps p 0 → Has ps p → ⊥
 none_left lists ps p l h = let w = at_has ps p h in l.others w.0 (omega arith) w.2
 
--- the look before an index is at its place
+-- the look of an index is at its place
+pub look_at : (ls : List Seen) (i : ℕ) (l : Seen) → i < length ls → l ≡ get_or ls i l → slice_get (places_of_looks ls) i ≡ Some l.place
+look_at ls i l low is = place_there ls i l (slice_get_read ls (length ls) i l refl low is)
+
+-- and so is the one before an index
 pub look_below : (lists : ℕ) (ls : List Seen) (p : Place) (end : ℕ) (l : Seen) → IsLeftBelow lists (places_of_looks ls) p end → 0 < end
     → l ≡ get_or ls (end - 1) l → slice_get (places_of_looks ls) (end - 1) ≡ Some l.place
 look_below lists ls p end l left some is =
-    place_there ls (end - 1) l (slice_get_read ls (length ls) (end - 1) l refl (omega (arith, left.within, number_of_places ls, some)) is)
+    look_at ls (end - 1) l (omega (arith, left.within, number_of_places ls, some)) is
 
 -- and if that is another place, the search goes on before it
-pub left_look : (t : PlaceTable) (ls : List Seen) (p q : Place) (end b : ℕ) → FindsPlaces t (places_of_looks ls)
+pub left_look : (t : PlaceTable) (ls : List Seen) (p q : Place) (end b : ℕ) → ListsPlaces t (places_of_looks ls)
     → IsLeftBelow (length t.last.items) (places_of_looks ls) p end → 0 < end → slice_get (places_of_looks ls) (end - 1) ≡ Some q
     → (place_number q ≡ place_number p → ⊥) → b ≡ get_or t.before.items (end - 1) b
     → IsLeftBelow (length t.last.items) (places_of_looks ls) p b × (b < end)

@@ -10,17 +10,11 @@ use Rattle.chan_walk.proofs.Theory.Lists.{contains_has, has_contains}
 use Rattle.chan_walk.proofs.Algorithms.Marks.{same_number}
 
 -- the number of a look's place
-abbrev number : Seen → ℕ
+abbrev pub number : Seen → ℕ
 number l = place_number l.place
 
 numbers_of_places : (ls : List Seen) → map place_number (places_of_looks ls) ≡ map number ls
 numbers_of_places ls = map-map place_number place_of ls
-
--- an order of places that is that of their numbers
-by_number : (cmp : Place → Place → Ordering) (ls : List Seen) → ((p q : Place) → cmp p q ≡ nat_cmp (place_number p) (place_number q))
-    → IsSortedByKey place_of cmp ls → IsNonDecreasingBy number ls
-by_number cmp ls same up =
-    IsNonDecreasingBy-from_sort number ls (λ k d low high. ap is_lt (sym (same (get_or ls (k + 1) d).place (get_or ls k d).place)) ∙ up k d low high)
 
 pub non_decreasing : {X : Type 0} (n : X → ℕ) (xs : List X) → IsNonDecreasingBy n xs → IsNonDecreasing (map n xs)
 non_decreasing n [] up i j d le lt = absurd (omega arith)
@@ -35,10 +29,10 @@ non_decreasing n (x ∷ xs) up i j d le lt =
 pub eqb_flips : (x y : ℕ) → eqb x y ≡ eqb y x
 eqb_flips x y = search rules
 
--- sorted by place, and no place twice
-pub increasing : (cmp : Place → Place → Ordering) (ls ms : List Seen) → ((p q : Place) → cmp p q ≡ nat_cmp (place_number p) (place_number q))
-    → IsSortedByKey place_of cmp ms → IsPermutation ls ms → AreDistinct (places_of_looks ls) → IsStrictlyIncreasing (map place_number (places_of_looks ms))
-increasing cmp ls ms same up moved distinct =
+-- sorted by the numbers of their places, and no place twice
+pub increasing : (ls ms : List Seen) → IsNonDecreasingBy number ms → IsPermutation ls ms → AreDistinct (places_of_looks ls)
+    → IsStrictlyIncreasing (map place_number (places_of_looks ms))
+increasing ls ms up moved distinct =
     search (
       rules,
       numbers_of_places,
@@ -48,7 +42,6 @@ increasing cmp ls ms same up moved distinct =
       IsPermutation-map,
       IsStrictlyIncreasing-from_distinct,
       non_decreasing number,
-      by_number,
     )
 
 pub same_elements : {X : Type 0} (xs ys : List X) (x : X) → IsPermutation xs ys → Has ys x ↔ Has xs x

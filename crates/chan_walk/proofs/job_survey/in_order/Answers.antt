@@ -1,10 +1,14 @@
 use Rattle.chan_walk.proofs.Names.{place_of, rules}
-use Rattle.std.proofs.lemmas.Fn.{always_returns_same}
-use Rattle.chan_walk.proofs.Algorithms.Sorting.{increasing}
+use Rattle.std.proofs.lemmas.List.Sorted.{IsNonDecreasingBy-from_sort_by_key}
+use Rattle.chan_walk.proofs.Algorithms.Sorting.{increasing, number, same_elements}
 use Rattle.chan_walk.proofs.job_survey.in_order.Goals as goal
 
-pub returns-clause-ordered : goal.returns-clause-ordered
-returns-clause-ordered c =
-    increasing _ c.args.looks.items c.sort_unstable_by_key.new.self.items c.order_is_by_number.ensures
-    (c.sort_unstable_by_key.ensures.sorted place_of (always_returns_same _ _ _ (λ a r f k. search rules)))
-    c.sort_unstable_by_key.ensures.permutation c.requires
+pub returns : goal.returns
+returns c =
+    let is = c.in_ok-sort_by_cached_key.ensures in
+    let sorted = c.sort_by_cached_key.new.self.items in
+    record {
+      ordered = increasing c.args.looks.items sorted
+          (IsNonDecreasingBy-from_sort_by_key number _ is.sorted (λ a r q k. search rules)) is.permutation c.requires;
+      same = λ l. same_elements c.args.looks.items sorted l is.permutation;
+    }

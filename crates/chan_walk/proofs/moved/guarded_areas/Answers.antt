@@ -7,9 +7,9 @@ new-requires c =
     let ccws = c.ccw_ranges.result.now in
     let arguments = c.argument_ranges.result.now in
     let first : c.extend_from_slice.new.self.items ≡ ccws =
-    c.in_ok-extend_from_slice.ensures.items ∙ ap (λ (xs : List Area). xs ++ ccws) c.new-areas.ensures.items in
+    c.in_ok-extend_from_slice.ensures.ok ∙ ap (λ (xs : List Area). xs ++ ccws) c.new-areas.ensures.items in
     let both : c.extend_from_slice-2.new.self.items ≡ ccws ++ arguments =
-    c.in_ok-extend_from_slice-2.ensures.items ∙ ap (λ (xs : List Area). xs ++ arguments) first in
+    c.in_ok-extend_from_slice-2.ensures.ok ∙ ap (λ (xs : List Area). xs ++ arguments) first in
     subst (All (EndsBelow (2 ^ 32))) (sym both) (All-append (EndsBelow (2 ^ 32)) ccws arguments c.ccw_ranges.ensures.low c.argument_ranges.ensures.low)
 
 pub returns : goal.returns

@@ -28,9 +28,9 @@ traced_first j = record {
 pub loop-at-init : goal.loop-at-init
 loop-at-init c =
     let j = c.args.job.now in
-    let one = alone j.limit c.first_place.result (places_of_looks c.new-2.result.items)
-    (places_of_looks c.add.new.self.looks.items) c.new-3.result.items c.add.new.self.found_from.items
-    (ap places_of_looks c.new-2.ensures.items) c.new-3.ensures.items c.in_ok-add.ensures.ok in
+    let one = alone j.limit c.first_place.result (places_of_looks c.in_ok-with_capacity.field-0.items)
+    (places_of_looks c.add.new.self.looks.items) c.in_ok-with_capacity-2.field-0.items c.add.new.self.found_from.items
+    (ap places_of_looks c.in_ok-with_capacity.ensures.items) c.in_ok-with_capacity-2.ensures.items c.in_ok-add.ensures.ok in
     let places = one.places ∙ ap (λ (p : Place). p ∷ []) c.first_place.ensures in
     record {
       looks = c.in_ok-add.ensures.looks;

@@ -1,27 +1,24 @@
-use Rattle.std.proofs.Common.{◌^◌, refl, rules}
-use Rattle.std.proofs.lemmas.List.Sorted.{IsNonDecreasingBy-from_sort_by_key, All-permutation}
-use Rattle.chan_areas.specs.Merged.{start_of, EndsBelow}
-use Rattle.chan_areas.proofs.Merging.{exactly_low, exactly_sorted}
+use Rattle.std.proofs.Common.{◌∙◌, ◌≡◌, ◌^◌, ap, length, subst, sym, take, true, List}
+use Rattle.std.specs.List.{All}
+use Rattle.ccw_core.specs.declared.areas.Area.{Area}
+use Rattle.ccw_core.specs.Areas.{lies_in}
+use Rattle.chan_areas.specs.Merged.{AreExactly, EndsBelow, IsMerged}
+use Rattle.chan_areas.proofs.Merging.{refilled}
 use Rattle.chan_areas.proofs.merged.Merged.new.Goals as goal
 
-pub merge_sorted-requires-clause-sorted : goal.merge_sorted-requires-clause-sorted
-merge_sorted-requires-clause-sorted c =
-    IsNonDecreasingBy-from_sort_by_key start_of _ c.sort_unstable_by_key.ensures.sorted (λ a r q k. search rules)
-
-pub merge_sorted-requires-clause-low : goal.merge_sorted-requires-clause-low
-merge_sorted-requires-clause-low c =
-    All-permutation (EndsBelow (2 ^ 32)) c.args.areas.items c.sort_unstable_by_key.new.self.items c.sort_unstable_by_key.ensures.permutation c.requires
+kept : (c : goal.After-truncate) → c.truncate.new.self.items ≡ take c.merge-count.result c.merge-count.new.areas
+kept c =
+    c.truncate.ensures.items
+    ∙ ap (take c.merge-count.result)
+    (refilled c.args.areas.items c.merge-count.new.areas (c.merge-count.ensures.size ∙ ap length c.as_mut_slice.ensures.value))
 
 pub invariant_of-result : goal.invariant_of-result
 invariant_of-result c =
-    let is = c.merge_sorted.ensures in
-    let exactly =
-    exactly_sorted c.args.areas.items c.sort_unstable_by_key.new.self.items c.sort_unstable_by_key.new.self.items c.merge_sorted.new.areas.items
-    c.sort_unstable_by_key.ensures.permutation refl is.merged is.bytes in
-    (is.merged, exactly_low (2 ^ 32) _ _ exactly c.requires)
+    subst (λ (xs : List Area). IsMerged xs × All (EndsBelow (2 ^ 32)) xs) (sym (kept c))
+    (c.merge-count.ensures.runs.merged, c.merge-count.ensures.low)
 
 pub returns : goal.returns
 returns c =
-    let is = c.merge_sorted.ensures in
-    exactly_sorted c.args.areas.items c.sort_unstable_by_key.new.self.items c.sort_unstable_by_key.new.self.items c.merge_sorted.new.areas.items
-    c.sort_unstable_by_key.ensures.permutation refl is.merged is.bytes
+    subst (AreExactly (λ b. lies_in c.args.areas.items b ≡ true)) (sym (kept c))
+    (subst (λ (xs : List Area). AreExactly (λ b. lies_in xs b ≡ true) (take c.merge-count.result c.merge-count.new.areas))
+    c.as_mut_slice.ensures.value c.merge-count.ensures.runs)
