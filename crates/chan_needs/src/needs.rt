@@ -89,7 +89,7 @@ pub fn kept_from(alloc: Global, survey: &Survey) -> Result<Vec<Area>, AllocError
         → first_verdict survey.now.offences ≡ Yes → AreOfOneProgram j k
         → AreExactly (IsKept j) v.items) }
 {
-    guarded_areas(alloc, survey.guard())?.into_areas()
+    Ok(guarded_areas(alloc, survey.guard())?.into_areas()?)
 }
 
 /// The cylinders that seeks go to, as a merged list in which a cylinder counts as a byte.

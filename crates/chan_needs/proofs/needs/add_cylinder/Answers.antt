@@ -6,7 +6,7 @@ pub returns-in_ok-push-clause-cylinder : goal.returns-in_ok-push-clause-cylinder
 returns-in_ok-push-clause-cylinder c j look clear =
     adds_cylinder j c.args.look.now.place c.cylinder.result c.in-Some.cylinder
     c.args.cylinders.now.items c.push.new.self.items (c.cylinder.ensures j look clear) c.in-Some.is
-    (c.in_ok-push.ensures.items ∙ ap (λ n. c.args.cylinders.now.items ++ byte_area n ∷ []) c.from.ensures)
+    (c.in_ok-push.ensures.ok ∙ ap (λ n. c.args.cylinders.now.items ++ byte_area n ∷ []) c.from.ensures)
 
 pub returns-in_default-clause-cylinder : goal.returns-in_default-clause-cylinder
 returns-in_default-clause-cylinder c j look clear =

@@ -9,6 +9,6 @@ pub returns : goal.returns
 returns c j k is none one =
     let verdict = subst (λ (v : Verdict). IsVerdict k v) none (first_is_verdict k c.args.survey.now.offences is.offences) in
     let guards = subst (λ (g : GuardAreas). Guards k g) (sym c.guard.ensures) is.guard in
-    let found = subst (AreExactly (IsGuarded k)) (sym c.into_areas.ensures.areas) (c.in_ok-guarded_areas.ensures k guards) in
+    let found = subst (AreExactly (IsGuarded k)) (sym c.in_ok-into_areas.ensures.areas) (c.in_ok-guarded_areas.ensures k guards) in
     let same = (same_under_yes k (open_job j) (to_open j k one) verdict (yes_opens j k one is.proper verdict)).1 in
     record { merged = found.merged; bytes = λ b. ((λ l. (same b).0 ((found.bytes b).0 l)), λ g. (found.bytes b).1 ((same b).1 g)) }

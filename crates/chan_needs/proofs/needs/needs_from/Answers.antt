@@ -15,8 +15,8 @@ returns c j one =
       mask = c.needed_mask.ensures k are;
       sought = c.in_ok-sought.ensures.cylinders k are;
       runs = ap (map pair) c.in_ok-runs.ensures;
-      fetch = subst (AreExactly (IsFetchedFrom k)) (sym c.into_areas.ensures.areas) (c.in_ok-data_moved.ensures k are.looks are.reached);
-      store = subst (AreExactly (IsStoredInto k)) (sym c.into_areas-2.ensures.areas) (c.in_ok-data_moved-2.ensures k are.looks are.reached);
-      keep = subst (AreExactly (IsGuarded k)) (sym c.into_areas-3.ensures.areas)
+      fetch = subst (AreExactly (IsFetchedFrom k)) (sym c.in_ok-into_areas.ensures.areas) (c.in_ok-data_moved.ensures k are.looks are.reached);
+      store = subst (AreExactly (IsStoredInto k)) (sym c.in_ok-into_areas-2.ensures.areas) (c.in_ok-data_moved-2.ensures k are.looks are.reached);
+      keep = subst (AreExactly (IsGuarded k)) (sym c.in_ok-into_areas-3.ensures.areas)
           (c.in_ok-guarded_areas.ensures k (subst (λ (g : GuardAreas). Guards k g) (sym c.guard.ensures) c.requires.survey.guard));
     })
