@@ -20,7 +20,7 @@ use crate::lent::{Lending, Lent};
 use crate::place::Place;
 use crate::reason::Reason;
 use crate::successor::{Next, next_after};
-use crate::visit::Visit;
+use crate::visit::{Visit, begun_command};
 use ccw_core::Ccw;
 use ckd_core::Command;
 use std::marker::Model;
@@ -37,22 +37,20 @@ enum Finding {
 pub struct Look {
     place: Place,
     ccw: Option<Ccw>,
-    command: Option<Command>,
     direction: Option<Direction>,
     finding: Finding,
 }
 
 impl Model for Look {
-    ghost use Rattle.std.specs.Prelude.{option_map};
-    ghost use Rattle.ckd_core.specs.Entries.{entry_of};
     ghost use Rattle.chan_walk.specs.Look.{Seen, fault_in, next_in, operand_in};
+    ghost use Rattle.chan_walk.specs.Visit.{begun_at};
 
     ghost Value = { Seen };
 
     ghost view = { λ l. record {
       place = l.place;
       ccw = l.ccw;
-      command = option_map entry_of l.command;
+      command = begun_at l.place l.ccw;
       direction = l.direction;
       fault = fault_in l.finding;
       next = next_in l.finding;
@@ -75,12 +73,12 @@ impl Look {
         self.ccw
     }
 
-    /// The command that begins there; `None` under data chaining, and if the table has no such
-    /// code.
+    /// The command that begins there, as the table has it; `None` under data chaining, and if the
+    /// table has no such code.
     pub fn command(&self) -> Option<Command>
         ensures { option_map entry_of result ≡ self.now.command }
     {
-        self.command
+        begun_command(self.place, &self.ccw?)
     }
 
     /// Whether the CCW there moves data this way: into storage unless it skips, or out of it. A
@@ -146,7 +144,6 @@ fn look_at_nothing(job: &Job, place: Place) -> Look
     Look {
         place,
         ccw: None,
-        command: None,
         direction: None,
         finding: Finding::Faulty(fault_without_ccw(job, place)),
     }
@@ -160,6 +157,8 @@ fn look_at_ccw(job: &Job, lending: Lending, place: Place, ccw: Ccw) -> Look
     ensures look { IsLook job.now result }
 {
     let visit = Visit::new(place, ccw);
+    // For the checker alone: it asks for the type of what a visit holds.
+    let _command = visit.command;
     let operand = read_operand(&job.storage, &visit);
     let finding = match own_fault(job, lending, &visit, operand) {
         Some(evidence) => Finding::Faulty(evidence),
@@ -171,7 +170,6 @@ fn look_at_ccw(job: &Job, lending: Lending, place: Place, ccw: Ccw) -> Look
     Look {
         place,
         ccw: Some(ccw),
-        command: visit.command,
         direction: visit.direction(),
         finding,
     }

@@ -90,7 +90,7 @@ impl Visit {
 }
 
 /// The command of the table that begins at a place whose CCW is `ccw`.
-fn begun_command(place: Place, ccw: &Ccw) -> Option<Command>
+pub(crate) fn begun_command(place: Place, ccw: &Ccw) -> Option<Command>
     ensures { option_map entry_of result ≡ begun place ccw.now }
 {
     if place.entered.is_fresh() {

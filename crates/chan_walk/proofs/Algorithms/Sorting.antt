@@ -1,9 +1,6 @@
 -- Looks put in order of place.
-use Rattle.chan_walk.proofs.Names.{[], ap, AreDistinct, arith, Contains-permutation, eqb, get_or, get_or-map, Has, IsDistinct-IsPermutation, IsNonDecreasingBy, IsPermutation, IsPermutation-map, IsPermutation-sym, IsStrictlyIncreasing, IsStrictlyIncreasing-from_distinct, length, length-map, List, map, nat_cmp, Place, place_number, place_of, places_of_looks, rules, Seen, sym, ℕ, ◌+◌, ◌<◌, ◌↔◌, ◌∙◌, ◌∷◌, ◌≡◌}
-use Rattle.std.proofs.Common.{Ordering}
-use Rattle.std.specs.List.Sorted.{IsNonDecreasing, IsSortedByKey}
-use Rattle.std.specs.Ordering.{is_lt}
-use Rattle.std.proofs.lemmas.List.Sorted.{IsNonDecreasingBy-from_sort}
+use Rattle.chan_walk.proofs.Names.{[], AreDistinct, arith, Contains-permutation, eqb, get_or-map, Has, IsDistinct-IsPermutation, IsNonDecreasingBy, IsPermutation, IsPermutation-map, IsPermutation-sym, IsStrictlyIncreasing, IsStrictlyIncreasing-from_distinct, length, length-map, List, map, place_number, place_of, places_of_looks, rules, Seen, ℕ, ◌<◌, ◌↔◌, ◌∷◌, ◌≡◌}
+use Rattle.std.specs.List.Sorted.{IsNonDecreasing}
 use Rattle.std.proofs.lemmas.Simd.{map-map}
 use Rattle.chan_walk.proofs.Algorithms.InOrder.{distinct_numbers}
 use Rattle.chan_walk.proofs.Theory.Lists.{contains_has, has_contains}

@@ -1,4 +1,4 @@
-use Rattle.chan_walk.proofs.Names.{place_of, rules}
+use Rattle.chan_walk.proofs.Names.{rules}
 use Rattle.std.proofs.lemmas.List.Sorted.{IsNonDecreasingBy-from_sort_by_key}
 use Rattle.chan_walk.proofs.Algorithms.Sorting.{increasing, number, same_elements}
 use Rattle.chan_walk.proofs.job_survey.in_order.Goals as goal

@@ -1,4 +1,4 @@
-use Rattle.chan_walk.proofs.Names.{ap, arith, cases_lt, inl, inr, places_of_looks, slice_get, Some, sym, ℕ, ◌<◌, ◌∙◌, ◌≡◌, ◌≤◌, ◌⊎◌}
+use Rattle.chan_walk.proofs.Names.{ap, arith, cases_lt, inl, inr, places_of_looks, slice_get, Some, sym, ◌<◌, ◌∙◌, ◌≡◌, ◌≤◌, ◌⊎◌}
 use Rattle.chan_walk.proofs.Algorithms.Looking.{number_of_places}
 use Rattle.chan_walk.proofs.Algorithms.Marks.{same_number}
 use Rattle.chan_walk.proofs.Algorithms.PlaceTable.{look_at}
