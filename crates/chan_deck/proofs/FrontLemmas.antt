@@ -11,7 +11,8 @@ Line = List ℕ
 
 -- ---- lines and text
 
-split_line : (l t : List ℕ) → HasNoFeed l → split (l ++ 10 ∷ t) ≡ (l ∷ (split t).0, (split t).1)
+-- a line without a line feed in it is the first
+pub split_line : (l t : List ℕ) → HasNoFeed l → split (l ++ 10 ∷ t) ≡ (l ∷ (split t).0, (split t).1)
 unfolding split
 split_line [] t h = refl
 split_line (b ∷ l) t h =

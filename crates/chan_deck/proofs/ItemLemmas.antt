@@ -64,6 +64,11 @@ line_no_feed (put a word) =
     (no_feed-append (address_digits a) (32 ∷ encode_upper word) (upper_no_feed (bytes_high_first 3 a)) (refl, upper_no_feed word))
 line_no_feed i = from_test (line i) refl
 
+-- what says something has no line feed in it
+pub said_no_feed : (l : List ℕ) (o : Option Item) → LineSaysIfAny l o → (o ≡ None → ⊥) → HasNoFeed l
+said_no_feed l None says some = absurd (some refl)
+said_no_feed l (Some i) says some = subst HasNoFeed (sym says.1) (line_no_feed i)
+
 -- ---- what a line says, read back
 
 abbrev bytes_or_none : Result (List ℕ) FromHexError → List ℕ

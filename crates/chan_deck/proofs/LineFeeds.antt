@@ -1,5 +1,5 @@
 -- The first line feed of a text ends its first line.
-use Rattle.chan_deck.proofs.Names.{[], arith, Bool, common_steps, drop, false, inl, inr, length, List, list_any, nat_tests, None, position, refl, slice_index, Some, split, subst, suc, take, ℕ, ◌++◌, ◌+◌, ◌<◌, ◌==◌, ◌∷◌, ◌≡◌, ◌≤◌}
+use Rattle.chan_deck.proofs.Names.{[], arith, Bool, drop, inl, inr, length, List, nat_tests, None, position, Some, refl, split, subst, suc, take, ℕ, ◌+◌, ◌<◌, ◌==◌, ◌∷◌, ◌≡◌, ◌≤◌}
 use Rattle.std.specs.List.{position_or_len}
 use Rattle.std.proofs.lemmas.Bool.{cases_Bool}
 
@@ -41,10 +41,3 @@ some_line t i e =
 
 pub no_line : (t : List ℕ) → position (λ b. b == 10) t ≡ None → split t ≡ ([], t)
 no_line t e = none_ends t (grind (arith, nat_tests, e))
-
--- a line feed behind bytes without one is the first
-pub first_feed : (front rest : List ℕ) (n : ℕ) → length front ≡ n → list_any feed front ≡ false
-    → slice_index rest 0 ≡ 10 → position feed (front ++ rest) ≡ Some n
-first_feed [] [] n len none e = absurd (omega (arith, e))
-first_feed [] (b ∷ rest) n len none e = grind (arith, common_steps, nat_tests, len, e)
-first_feed (b ∷ front) rest n len none e = grind (arith, common_steps, nat_tests, len, e, none, first_feed front rest (length front) refl)

@@ -23,3 +23,8 @@ good_size h fs ss (x ∷ es) n some e = ap (λ b. cond b (Ok (Filling h (x ∷ e
 pub was_read : (s next : State) (m n : ℕ) (i : Item) → after_line s (said_by i) ≡ Ok next → IsLessLeft m i n → n < m
 was_read s next m n found.Missing e h = absurd cc
 was_read s next m n i e h = h
+
+-- fewer bytes are left
+pub is_less : (m n : ℕ) (i : Item) → n < m → IsLessLeft m i n
+is_less m n found.Missing h = tt
+is_less m n i h = h

@@ -1,14 +1,18 @@
 -- What one line more does to where reading stands: it goes on, or the text is refused there, or it has spelled a deck.
-use Rattle.chan_deck.proofs.Names.{[], after_line, all_append, and_then, ap, append-nil, append_assoc, arith, Cause, drop, Err, false, FoundLine, HasForm, HasRead, DeckValue, inl, inr, is_whole, IsDeckCause, IsDeckError, IsRefusedAt, Item, items, length, length-append, length-map, line, lines, LineSaysIfAny, List, map, map-append, MatchBool, nat_tests, None, Ok, Opening, Option, part, position, rank, refl, Result, run, Some, Spells, split, State, subst, sym, take, text, Whole, whole_line, ℕ, ◌++◌, ◌+◌, ◌-◌, ◌<◌, ◌==◌, ◌∙◌, ◌∷◌, ◌≡◌, ◌⊎◌}
+use Rattle.chan_deck.proofs.Names.{[], after_line, all_append, and_then, ap, append-nil, append_assoc, arith, Cause, drop, Err, false, FoundLine, HasForm, HasRead, DeckValue, inl, inr, is_whole, IsDeckCause, IsDeckError, IsRefusedAt, Item, items, length, length-append, length-map, line, LineReads, lines, LineSaysIfAny, List, map, map-append, MatchBool, nat_tests, None, Ok, Opening, Option, part, position, rank, refl, Result, run, said_by, Some, Spells, split, State, subst, sym, take, text, Whole, whole_line, ℕ, ◌++◌, ◌+◌, ◌-◌, ◌<◌, ◌==◌, ◌∙◌, ◌∷◌, ◌≡◌, ◌⊎◌}
 use Rattle.std.proofs.Math.Seq.{take-append_seam, drop-append_seam}
 use Rattle.chan_deck.specs.Refused.{found_in, found_behind, AreSaid, IsRefused}
+use Rattle.chan_deck.specs.Reading.{IsNextLine, refusal}
 use Rattle.chan_deck.specs.declared.deck_error.DeckError.{DeckError}
 use Rattle.chan_deck.specs.declared.deck_error.DeckError.TheVariants as errors
-use Rattle.chan_deck.proofs.ItemLemmas.{line_read}
+use Rattle.chan_deck.specs.declared.item.Item as declared
+use Rattle.chan_deck.specs.declared.item.Item.TheVariants as found
+use Rattle.chan_deck.specs.declared.lines.Cursor.{Cursor}
+use Rattle.chan_deck.proofs.ItemLemmas.{line_read, said_no_feed}
 use Rattle.chan_deck.proofs.LineFeeds.{some_line, no_line}
 use Rattle.chan_deck.proofs.StepLemmas.{said}
 use Rattle.chan_deck.proofs.DeckRuns.{run-append, reads_deck}
-use Rattle.chan_deck.proofs.FrontLemmas.{one_deck, is_state, says_said, refused_at_line, refused_at_end, whole_front, no_front, split_deck, items_form, said_once, join}
+use Rattle.chan_deck.proofs.FrontLemmas.{one_deck, is_state, says_said, refused_at_line, refused_at_end, whole_front, no_front, split_deck, split_line, items_form, said_once, join}
 use Rattle.chan_deck.proofs.CauseLemmas.{one_rank, line_cause, all_refused, end_cause, after_cause}
 use Rattle.chan_deck.specs.declared.cause.Cause.TheVariants as causes
 
@@ -191,3 +195,30 @@ refusal_only t errors.Memory n c h refused = inl refl
 
 pub same_deck : (t : List ℕ) (d e : DeckValue) → Spells t d → Spells t e → d ≡ e
 same_deck t d e hd he = one_deck d e hd.0 he.0 (sym hd.1 ∙ he.1)
+
+-- ---- a line that was read
+
+-- what was read of a line is refused at that line
+at_line : (n : ℕ) (l : List ℕ) (i : declared.Item) (cause : Cause) → LineReads l i → errors.At n cause ≡ refusal n i cause
+at_line n l found.Missing cause reads = absurd (reads.0 refl)
+at_line n l i cause reads = refl
+
+pub reads_line : (c d : Cursor) (l : List ℕ) (i : declared.Item) → d.line ≡ c.line + 1
+    → split c.rest.now ≡ (l ∷ (split d.rest.now).0, (split d.rest.now).1) → LineReads l i → IsNextLine c i d
+reads_line c d l i e parts reads = record {
+  takes = λ s next goes t st.
+      subst (λ (n : ℕ). HasRead t next (n + 1) d.rest.now) (sym e)
+      (takes t s next (c.line + 1) c.rest.now l d.rest.now (said_by i) st parts reads.1 goes);
+  refuses = λ s cause open_yet bad t st.
+      subst (λ (n : ℕ). IsDeckError t (refusal n i cause)) (sym e)
+      (subst (λ e. IsDeckError t e) (at_line (c.line + 1) l i cause reads)
+      (refuses_line t s (c.line + 1) c.rest.now l d.rest.now (said_by i) cause st parts reads.1 bad));
+}
+
+-- a line that says something ends at the first line feed
+pub ends_there : (t l after : List ℕ) (i : declared.Item) → t ≡ l ++ 10 ∷ after → LineReads l i → (i ≡ found.Formless → ⊥)
+    → split t ≡ (l ∷ (split after).0, (split after).1)
+ends_there t l after found.Formless e reads some = absurd (some refl)
+ends_there t l after found.Missing e reads some = absurd (reads.0 refl)
+ends_there t l after i e reads some =
+    ap (λ x. split x) e ∙ split_line l after (said_no_feed l (said_by i) reads.1 (λ none. absurd cc))

@@ -12,14 +12,21 @@ use crate::deck_digits::{
     address_digits, area_digits, byte_digits, cylinder_digits, limit_digits, size_digits,
     word_digits,
 };
-use crate::numbers::{address_of, byte_of, cylinder_of, places_of, size_of, word_of};
+use crate::numbers::{address_of, byte_of, cylinder_of, places_of, read_fields, size_of};
 use crate::version::VersionNumber;
+use byteorder::{BigEndian, ByteOrder};
 use ccw_core::Area;
 use ckd_core::Device;
 use std::alloc::AllocError;
 
 /// The length of a line that puts a doubleword, as nearly all lines of a long deck do.
 pub(crate) const PUT_LINE: usize = 27;
+
+/// The length of a line that lends an area.
+pub(crate) const AREA_LINE: usize = 19;
+
+/// The length of a line of an extent.
+pub(crate) const EXTENT_LINE: usize = 14;
 
 /// What a line of a deck says.
 #[derive(Clone, Copy)]
@@ -63,21 +70,27 @@ fn is_word(line: &[u8], word: &[u8]) -> bool
     line == word
 }
 
-/// Two fields after a word, with a space between them. The first has the given width.
-fn two_fields<'a>(line: &'a [u8], word: &[u8], width: usize) -> Option<(&'a [u8], &'a [u8])>
+/// The field of the given width between a word and a mark, and what follows the mark.
+#[inline(always)]
+pub(crate) fn field<'a>(
+    text: &'a [u8],
+    word: &[u8],
+    width: usize,
+    mark: &[u8],
+) -> Option<(&'a [u8], &'a [u8])>
     ensures { MatchOption result
-        ((first second : List ℕ) → length first ≡ width
-        → line.now ≡ word.now ++ (first ++ 32 ∷ second) → ⊥)
+        ((first rest : List ℕ) → length first ≡ width
+        → text.now ≡ word.now ++ (first ++ (mark.now ++ rest)) → ⊥)
         (λ found. (length found.0.now ≡ width)
-        × (line.now ≡ word.now ++ (found.0.now ++ 32 ∷ found.1.now))) }
+        × (text.now ≡ word.now ++ (found.0.now ++ (mark.now ++ found.1.now)))) }
 {
-    let fields = behind(line, word)?;
+    let fields = behind(text, word)?;
     if fields.len() < width {
         return None;
     }
     let (first, rest) = fields.split_at(width);
-    let second = behind(rest, b" ")?;
-    Some((first, second))
+    let rest = behind(rest, mark)?;
+    Some((first, rest))
 }
 
 /// The version that a header names.
@@ -143,7 +156,10 @@ fn extent_of(line: &[u8]) -> Option<(u16, u16)>
         ((first last : ℕ) → LineSays line.now (item.extent first last) → ⊥)
         (λ pair. LineSays line.now (item.extent pair.0 pair.1)) }
 {
-    let (first, last) = two_fields(line, b"extent ", 3)?;
+    if line.len() != EXTENT_LINE {
+        return None;
+    }
+    let (first, last) = field(line, b"extent ", 3, b" ")?;
     let first = cylinder_of(first)?;
     let last = cylinder_of(last)?;
     Some((first, last))
@@ -156,10 +172,12 @@ fn area_of(line: &[u8], word: &[u8]) -> Option<Area>
         ((a : Area) → IsArea a → line.now ≡ word.now ++ item.area_digits a → ⊥)
         (λ a. IsArea a × (line.now ≡ word.now ++ item.area_digits a)) }
 {
-    let (start, len) = two_fields(line, word, 6)?;
-    let start = address_of(start)?;
-    let len = address_of(len)?;
-    Some(Area { start, len })
+    let (start, len) = field(line, word, 6, b" ")?;
+    let bytes = read_fields::<12, 6>(start, len)?;
+    Some(Area {
+        start: BigEndian::read_u24(&bytes),
+        len: BigEndian::read_u24(&bytes[3..]),
+    })
 }
 
 /// The number of bytes of storage.
@@ -182,10 +200,9 @@ pub(crate) fn put_of(line: &[u8]) -> Option<(u32, u64)>
     if line.len() != PUT_LINE {
         return None;
     }
-    let (address, word) = two_fields(line, b"put ", 6)?;
-    let address = address_of(address)?;
-    let word = word_of(word)?;
-    Some((address, word))
+    let (address, word) = field(line, b"put ", 6, b" ")?;
+    let bytes = read_fields::<22, 11>(address, word)?;
+    Some((BigEndian::read_u24(&bytes), BigEndian::read_u64(&bytes[3..])))
 }
 
 /// What a line says, if it isn't a put.

@@ -1,53 +1,18 @@
 //! The lines of a text.
 
-ghost use Rattle.std.specs.Prelude.{◌≡◌, ◌+◌, ◌<◌, ◌==◌, ◌^◌, length, position, true, Some};
-ghost use Rattle.std.specs.Prelude.{IfSome, IfNone, [], ◌∷◌};
-ghost use Rattle.std.specs.List.{list_any};
+ghost use Rattle.std.specs.Prelude.{◌≡◌, ◌+◌, ◌<◌, ◌==◌, ◌^◌, length, position};
+ghost use Rattle.std.specs.Prelude.{IfSome, IfNone, [], ◌∷◌, ◌++◌};
 ghost use Rattle.chan_deck.specs.Refused.{split};
 
 use crate::cause::Cause;
 use crate::deck_error::DeckError::{self, At};
-use crate::item::{Item, PUT_LINE};
+use crate::item::{AREA_LINE, EXTENT_LINE, Item, PUT_LINE, field};
 
-/// The length of a line that lends an area.
-const AREA_LINE: usize = 19;
-
-/// Whether there is a line feed. It doesn't stop at the first, so that the few bytes of a line are
-/// compared at once.
-fn has_line_feed(text: &[u8]) -> bool
-    ensures { result ≡ list_any (λ b. b == 10) text.now }
-{
-    let mut found = false;
-    for byte in text {
-        found |= *byte == b'\n';
-    }
-    found
-}
-
-/// Whether the first line feed is at `end`. Inline, so that the length of the line is a constant.
-#[inline(always)]
-fn ends_at(text: &[u8], end: usize) -> bool
-    ensures place { result ≡ true → position (λ b. b == 10) text.now ≡ Some end }
-    ensures within { result ≡ true → end < length text.now }
-{
-    if text.len() <= end {
-        return false;
-    }
-    let (line, rest) = text.split_at(end);
-    rest[0] == b'\n' && !has_line_feed(line)
-}
-
-/// Where the next line feed is. It is looked for first where the lines of long lists have it.
+/// Where the next line feed is.
 fn line_end(text: &[u8]) -> Option<usize>
     ensures place { result ≡ position (λ b. b == 10) text.now }
     ensures within { IfSome result (λ i. i < length text.now) }
 {
-    if ends_at(text, PUT_LINE) {
-        return Some(PUT_LINE);
-    }
-    if ends_at(text, AREA_LINE) {
-        return Some(AREA_LINE);
-    }
     text.iter().position(|b| *b == b'\n')
 }
 
@@ -62,6 +27,21 @@ pub(crate) fn next_line(text: &[u8]) -> Option<(&[u8], &[u8])>
     let (line, rest) = text.split_at(end);
     let (_, rest) = rest.split_at(1);
     Some((line, rest))
+}
+
+/// The first line, if a line feed is where the lines of long lists have it. If the line says
+/// something, no other line feed is in it.
+#[inline(always)]
+fn likely_line(text: &[u8]) -> Option<(&[u8], &[u8])>
+    ensures { IfSome result (λ x. text.now ≡ x.0.now ++ 10 ∷ x.1.now) }
+{
+    if let Some(parts) = field(text, b"", PUT_LINE, b"\n") {
+        return Some(parts);
+    }
+    if let Some(parts) = field(text, b"", AREA_LINE, b"\n") {
+        return Some(parts);
+    }
+    field(text, b"", EXTENT_LINE, b"\n")
 }
 
 /// Where reading stands in a text.
@@ -96,6 +76,25 @@ impl<'a> Cursor<'a> {
     /// registers.
     #[inline(always)]
     pub(crate) fn next_item(&mut self) -> Item
+        ensures next { IsNextLine self.old result self.new }
+        ensures shorter { IsLessLeft (length self.old.rest.now) result
+            (length self.new.rest.now) }
+    {
+        if let Some((line, rest)) = likely_line(self.rest) {
+            match Item::read(line) {
+                Item::Formless => {}
+                item => {
+                    self.rest = rest;
+                    self.line += 1;
+                    return item;
+                }
+            }
+        }
+        self.searched_item()
+    }
+
+    /// What the next line says, whose line feed is searched for.
+    fn searched_item(&mut self) -> Item
         ensures next { IsNextLine self.old result self.new }
         ensures shorter { IsLessLeft (length self.old.rest.now) result
             (length self.new.rest.now) }

@@ -1,11 +1,11 @@
 //! The numbers in a line.
 
-ghost use Rattle.std.specs.Prelude.{◌≡◌, ◌<◌, ◌^◌, ℕ, List, MatchOption};
-ghost use Rattle.std.specs.Int.{w64, to_be_bytes};
-ghost use Rattle.hex.specs.Hex.{encode_upper};
-ghost use Rattle.chan_deck.specs.Item.{IsAddress, IsByte, IsWord, address_digits, byte_digits};
+ghost use Rattle.std.specs.Prelude.{◌≡◌, ◌<◌, ◌*◌, ◌^◌, ◌++◌, ℕ, List, MatchOption, length};
+ghost use Rattle.hex.specs.Hex.{IsBytes, encode_upper};
+ghost use Rattle.chan_deck.specs.Item.{IsAddress, IsByte, address_digits, byte_digits};
 ghost use Rattle.chan_deck.specs.Item.{cylinder_digits, limit_digits, size_digits};
 
+use crate::storage_lines::write_at;
 use byteorder::{BigEndian, ByteOrder};
 use ccw_core::read_digits;
 use hex::FromHex;
@@ -51,14 +51,27 @@ pub(crate) fn size_of(digits: &[u8]) -> Option<u32>
     Some(u32::from_be_bytes(bytes))
 }
 
-/// Eight bytes of sixteen digits, as the number that has them.
-pub(crate) fn word_of(digits: &[u8]) -> Option<u64>
+/// The bytes whose digits two fields have together, if they are those of so many bytes.
+#[inline(always)]
+pub(crate) fn read_fields<const D: usize, const N: usize>(
+    first: &[u8],
+    second: &[u8],
+) -> Option<[u8; N]>
+    requires twice { D ≡ 2 * N }
+    requires few { N < 16 }
     ensures { MatchOption result
-        ((word : List ℕ) → IsWord word → digits.now ≡ encode_upper word → ⊥)
-        (λ n. digits.now ≡ encode_upper (to_be_bytes w64 n)) }
+        ((bytes : List ℕ) → length bytes ≡ N → IsBytes bytes
+        → first.now ++ second.now ≡ encode_upper bytes → ⊥)
+        (λ bytes. (length bytes ≡ N) × IsBytes bytes
+        × (first.now ++ second.now ≡ encode_upper bytes)) }
 {
-    let bytes: [u8; 8] = read_digits(digits)?;
-    Some(u64::from_be_bytes(bytes))
+    if first.len() + second.len() != D {
+        return None;
+    }
+    let mut digits = [0u8; D];
+    write_at(&mut digits, 0, first);
+    write_at(&mut digits, first.len(), second);
+    read_digits(&digits)
 }
 
 /// A cylinder of three decimal digits.

@@ -1,7 +1,10 @@
-use Rattle.chan_deck.proofs.Names.{cylinder_digits, refl, sym, ◌∙◌}
+use Rattle.chan_deck.proofs.Names.{ap, cylinder_digits, length, refl, sym, ◌∙◌}
 use Rattle.std.specs.Prelude.{codes}
 use Rattle.chan_deck.proofs.FieldLemmas.{on_none, same_behind}
 use Rattle.chan_deck.proofs.item.extent_of.Goals as goal
+
+pub returns-then-line-ne-EXTENT_LINE : goal.returns-then-line-ne-EXTENT_LINE
+returns-then-line-ne-EXTENT_LINE c = λ first last says. c.if-line-ne-EXTENT_LINE.true (ap length says.1)
 
 pub returns-in_err-first : goal.returns-in_err-first
 returns-in_err-first c = on_none _ _ _ c.from_residual.ensures (λ first last says.
