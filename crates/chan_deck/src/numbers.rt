@@ -42,12 +42,7 @@ pub(crate) fn size_of(digits: &[u8]) -> Option<u32>
         ((n : ℕ) → n < 2 ^ 28 → digits.now ≡ size_digits n → ⊥)
         (λ n. (n < 2 ^ 28) × (digits.now ≡ size_digits n)) }
 {
-    if digits.len() != 7 {
-        return None;
-    }
-    let mut eight = *b"00000000";
-    eight[1..].copy_from_slice(digits);
-    let bytes: [u8; 4] = read_digits(&eight)?;
+    let bytes = read_fields::<8, 4>(b"0", digits)?;
     Some(u32::from_be_bytes(bytes))
 }
 

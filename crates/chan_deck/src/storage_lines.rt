@@ -22,7 +22,8 @@ pub(crate) fn write_at(storage: &mut [u8], at: usize, bytes: &[u8])
 }
 
 /// Puts what follows the line of storage, up to the end of the deck, into storage, which is zero
-/// before.
+/// before. It isn't inlined: by itself it keeps all that the loop uses in registers.
+#[inline(never)]
 pub(crate) fn fill(storage: &mut [u8], mut cursor: Cursor) -> Result<(), DeckError>
     requires { storage.old ≡ replicate (length storage.old) 0 }
     ensures filled { (h : Heading) (es : List (ℕ × ℕ)) (fs ss : List Area) (t : List ℕ)
