@@ -1,6 +1,7 @@
 //! The guard: which bytes of storage a program may not change while it runs.
 
-ghost use Rattle.std.specs.Prelude.{◌≡◌, ℕ, ◌<◌, ◌↔◌, ◌^◌, ◌++◌, map, IfOk, OnOk, IsTrue};
+ghost use Rattle.std.specs.Prelude.{◌≡◌, ℕ, ◌<◌, ◌↔◌, ◌^◌, ◌++◌, [], ◌∷◌, map, IfOk, OnOk, IsTrue};
+ghost use Rattle.ccw_core.specs.Areas.{end_of};
 ghost use Rattle.std.specs.Prelude.{slice_index};
 ghost use Rattle.std.specs.List.{All};
 ghost use Rattle.chan_walk.specs.Places.{AreReachable};
@@ -152,9 +153,35 @@ fn add_bytes(areas: &mut Areas, addresses: &[u32]) -> Result<(), AllocError>
     ensures bytes { OnOk result
         (HaveSameBytes areas.new.items (areas.old.items ++ map byte_area addresses.now)) }
 {
+    let Some(first) = addresses.first() else {
+        return Ok(());
+    };
+    let mut run = Area {
+        start: *first,
+        len: 0,
+    };
     for address in addresses {
-        let start = *address;
-        add_area(areas, Area { start, len: 1 })?;
+        run = add_byte(areas, run, *address)?;
     }
-    Ok(())
+    add_area(areas, run)
+}
+
+/// Adds the byte at an address to the run before it, which goes on with it, or is added itself.
+fn add_byte(areas: &mut Areas, run: Area, start: u32) -> Result<Area, AllocError>
+    requires low { All (EndsBelow (2 ^ 32)) areas.old.items }
+    requires run { end_of run < 2 ^ 32 }
+    requires start { start < STORAGE_LIMIT }
+    ensures low { OnOk result (All (EndsBelow (2 ^ 32)) areas.new.items) }
+    ensures run { IfOk result (λ r. end_of r < 2 ^ 32) }
+    ensures bytes { IfOk result (λ r. HaveSameBytes (areas.new.items ++ r ∷ [])
+        ((areas.old.items ++ run ∷ []) ++ byte_area start ∷ [])) }
+{
+    if start == run.start + run.len {
+        return Ok(Area {
+            start: run.start,
+            len: run.len + 1,
+        });
+    }
+    add_area(areas, run)?;
+    Ok(Area { start, len: 1 })
 }
