@@ -4,5 +4,5 @@ use Rattle.chan_deck.proofs.shape.shape_of.Goals as goal
 
 pub returns : goal.returns
 returns c = λ j is.
-    let looks = c.into_parts-looks.result.0.items in
-    (places_of_looks looks, c.into_parts-looks.ensures.places j is, rw length-map (search rules))
+    let looks = c.in_ok-looks.looks.items in
+    (places_of_looks looks, c.in_ok-looks.ensures.places j is, rw length-map (search rules))

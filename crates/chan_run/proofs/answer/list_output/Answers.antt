@@ -9,9 +9,9 @@ pub returns : goal.returns
 returns c =
     let j = c.args.job.now in
     let v = c.verdict-verdict.result in
-    let ls = c.into_parts-looks.result.0.items in
-    let are = c.into_parts-looks.ensures.places j c.requires in
-    let looks = c.into_parts-looks.ensures.looks j c.requires in
+    let ls = c.in_ok-looks.looks.items in
+    let are = c.in_ok-looks.ensures.places j c.requires in
+    let looks = c.in_ok-looks.ensures.looks j c.requires in
     let text = c.as_slice-2.ensures.value ∙ rw c.as_slice.ensures.value at c.in_ok-listing-2.ensures in
     rw (c.if-wide.false, ← c.verdict-verdict.ensures)
     (IfOk-weaker c.text_under-2.result _ _ (λ headed is.

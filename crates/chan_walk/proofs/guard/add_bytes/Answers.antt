@@ -1,4 +1,4 @@
-use Rattle.chan_walk.proofs.Names.{[], ap, arith, byte_area, lies_in, map, refl, rules, slice_index, subst, sym, take, ◌++◌, ◌∙◌, ◌∷◌}
+use Rattle.chan_walk.proofs.Names.{[], ap, byte_area, lies_in, map, refl, rules, slice_index, subst, sym, take, ◌++◌, ◌∙◌, ◌∷◌}
 use Rattle.std.proofs.Common.{append-nil}
 use Rattle.std.proofs.lemmas.List.{take_more}
 use Rattle.chan_areas.proofs.Merging.{bytes_empty}
