@@ -121,9 +121,7 @@ size_filling h es fs ss n P =
     let S = map store ss ++ storage n ∷ P in
     let F = map fetch fs ++ S in
     let E = map extent_of es ++ F in
-    let parts : lists h es fs ss ++ storage n ∷ P ≡ heading h ++ E =
-    append_assoc (heading h ++ map extent_of es ++ map fetch fs) (map store ss) (storage n ∷ P)
-    ∙ append_assoc (heading h ++ map extent_of es) (map fetch fs) S ∙ append_assoc (heading h) (map extent_of es) F in
+    let parts : lists h es fs ss ++ storage n ∷ P ≡ heading h ++ E = simp append_assoc in
     ap size_said parts ∙ past_limit h.version E ∙ past_all extent_of (λ e js. refl) es F
     ∙ past_all fetch (λ a js. refl) fs S ∙ past_all store (λ a js. refl) ss (storage n ∷ P)
 

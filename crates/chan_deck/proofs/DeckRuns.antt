@@ -135,10 +135,7 @@ reads_deck d is =
     let right : is_size size ≡ true = rw (is.whole, le-leb size STORAGE_LIMIT is.size) refl in
     let full : pad filled.0 size ≡ d.storage = filled.2 in
     let H = header (header_of d.version) ∷ device d.device ∷ mask d.mask ∷ start d.start ∷ limit_line d.version in
-    let joined : H ++ E ++ F ++ S ≡ H ++ (E ++ F ++ S) = ap (λ t. t ++ S) (append_assoc H E F) ∙ append_assoc H (E ++ F) S in
-    let parts : items d ≡ H ++ ((E ++ F ++ S) ++ storage size ∷ P ++ end ∷ []) =
-    ap (λ t. t ++ end ∷ []) (ap (λ t. t ++ storage size ∷ P) joined ∙ append_assoc H (E ++ F ++ S) (storage size ∷ P))
-    ∙ append_assoc H ((E ++ F ++ S) ++ storage size ∷ P) (end ∷ []) in
+    let parts : items d ≡ H ++ ((E ++ F ++ S) ++ storage size ∷ P ++ end ∷ []) = simp append_assoc in
     ap (λ t. run Opening t) parts ∙ by_version d.version d.device d.mask d.start ((E ++ F ++ S) ++ storage size ∷ P ++ end ∷ []) is.limit is.mask.1
     ∙ run-append (Listing h [] [] []) ((E ++ F ++ S) ++ storage size ∷ P) (end ∷ [])
     ∙ ap (λ r. and_then r (λ t. run t (end ∷ []))) (run-append (Listing h [] [] []) (E ++ F ++ S) (storage size ∷ P)

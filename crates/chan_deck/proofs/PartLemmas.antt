@@ -37,11 +37,6 @@ doublewords_are at image =
     ∙ ap (λ t. t ++ zeros rest) (sym (append_assoc (zeros (8 * (at / 8))) (zeros b) image) ∙ ap (λ t. t ++ image) front)
     ∙ ap (λ m. (zeros at ++ image) ++ zeros m) end
 
--- the doublewords of an image end in storage where it does
-pub doublewords_fit : (at n len : ℕ) → at + n ≤ STORAGE_LIMIT → len ≡ next_multiple_of (at % 8 + n) 8
-    → 8 * (at / 8) + len ≤ STORAGE_LIMIT
-doublewords_fit at n len le e = omega (arith, e, le)
-
 pub all_bytes : (bytes : List ℕ) → ((i : ℕ) → get_or bytes i 0 < 256) → AllByRecursion IsByte bytes
 all_bytes [] h = tt
 all_bytes (b ∷ bytes) h = (h zero, all_bytes bytes (λ i. h (suc i)))
@@ -49,11 +44,7 @@ all_bytes (b ∷ bytes) h = (h zero, all_bytes bytes (λ i. h (suc i)))
 -- how long storage is in which an image begins at an address
 pub length_storage : (at : ℕ) (image : List ℕ)
     → length (storage_with at image) ≡ next_multiple_of (at + length image) 8
-length_storage at image =
-    let front = zeros at ++ image in
-    let all : length front ≡ at + length image = length-append (zeros at) image ∙ ap (λ m. m + length image) (length-replicate {A = ℕ} at 0) in
-    let rest = next_multiple_of (length front) 8 - length front in
-    omega (arith, all, length-append front (zeros rest), length-replicate {A = ℕ} rest 0)
+length_storage at image = simp (length-append, length-replicate) (omega arith)
 
 -- parts whose image isn't too long, and whose numbers have six digits, make a deck
 pub parts_deck : (p : Parts) → p.at + length p.image.now ≤ STORAGE_LIMIT → HasShortAddresses p
@@ -79,27 +70,3 @@ pub from_facts : {T E A B C : Type 0} {P Q : T → Type 0} (r : Result T E) → 
     → OnOk r B → OnOk r C → ((x : T) → P x → A → B → C → Q x) → IfOk r Q
 from_facts (Ok x) p a b c f = f x p a b c
 from_facts (Err e) p a b c f = tt
-
--- with zeros before them, the doublewords of an image are its storage, and they end where it does
-pub behind_zeros : {T E : Type 0} (items : T → List ℕ) (at : ℕ) (image : List ℕ) (r : Result T E)
-    → IfOk r (λ t. items t ≡ storage_with (at % 8) image)
-    → IfOk r (λ t. zeros (8 * (at / 8)) ++ items t ≡ storage_with at image)
-behind_zeros items at image (Ok t) e = ap (λ bytes. zeros (8 * (at / 8)) ++ bytes) e ∙ doublewords_are at image
-behind_zeros items at image (Err x) e = tt
-
-pub end_in_storage : {T E : Type 0} (items : T → List ℕ) (at : ℕ) (image : List ℕ) (r : Result T E)
-    → at + length image ≤ STORAGE_LIMIT → IfOk r (λ t. items t ≡ storage_with (at % 8) image)
-    → IfOk r (λ t. 8 * (at / 8) + length (items t) ≤ STORAGE_LIMIT)
-end_in_storage items at image (Ok t) short e =
-    doublewords_fit at (length image) (length (items t)) short (ap length e ∙ length_storage (at % 8) image)
-end_in_storage items at image (Err x) short e = tt
-
--- what holds holds where a value came
-pub on_ok : {T E A : Type 0} (r : Result T E) → A → OnOk r A
-on_ok (Ok t) a = a
-on_ok (Err e) a = tt
-
--- storage in which an image ends isn't too large
-pub storage_fits : (at : ℕ) (image storage : List ℕ) → storage ≡ storage_with at image
-    → at + length image ≤ STORAGE_LIMIT → length storage ≤ STORAGE_LIMIT
-storage_fits at image storage is short = omega (arith, ap length is ∙ length_storage at image, short)

@@ -1,12 +1,9 @@
 -- What is written, line by line.
-use Rattle.chan_deck.proofs.Names.{[], ap, append-nil, append_assoc, Area, area_digits, arith, Bool, codes, cond, device, drop, end, extent_of, false, fetch, flat_map, header, header_of, DeckValue, in_six_digits, is_zero, Item, keep_line, length, length-append, length-drop, length-replicate, limit_line, line, List, map, map-append, mask, put, puts, refl, replicate, spelling, start, storage, store, suc, sym, take, text, true, ℕ, ◌%◌, ◌*◌, ◌++◌, ◌+◌, ◌/◌, ◌<◌, ◌∙◌, ◌∷◌, ◌≡◌, ◌≤◌}
+use Rattle.chan_deck.proofs.Names.{[], ap, append-nil, append_assoc, flat_map-append, Area, area_digits, arith, Bool, codes, cond, device, drop, end, extent_of, false, fetch, flat_map, header, header_of, DeckValue, in_six_digits, is_zero, Item, keep_line, length, length-append, length-drop, length-replicate, limit_line, line, List, map, map-append, mask, put, puts, refl, replicate, spelling, start, storage, store, suc, sym, take, text, true, ℕ, ◌%◌, ◌*◌, ◌++◌, ◌+◌, ◌/◌, ◌<◌, ◌∙◌, ◌∷◌, ◌≡◌, ◌≤◌}
 use Rattle.chan_needs.specs.Listed.{Listed}
 use Rattle.chan_deck.specs.Needs.{granting, needs_text}
 use Rattle.chan_deck.proofs.FrontLemmas.{text-append}
 use Rattle.chan_deck.proofs.PutLemmas.{puts-append, puts-zero}
-
-text_parts : (a b : List Item) → text (map line (a ++ b)) ≡ text (map line a) ++ text (map line b)
-text_parts a b = ap text (map-append line a b) ∙ text-append (map line a) (map line b)
 
 -- ---- puts
 
@@ -56,59 +53,19 @@ puts_behind at S whole =
 
 -- ---- the whole text
 
-pub each_text : {X : Type 0} (f : X → Item) (xs : List X) → flat_map (λ x. line (f x) ++ 10 ∷ []) xs ≡ text (map line (map f xs))
-each_text f [] = refl
-each_text f (x ∷ xs) = ap (λ t. (line (f x) ++ 10 ∷ []) ++ t) (each_text f xs)
-
--- the text of a deck, part by part
-pub spelling_parts : (d : DeckValue)
-    → ((((text (map line (header (header_of d.version) ∷ device d.device ∷ mask d.mask
-    ∷ start d.start ∷ limit_line d.version)) ++ text (map line (map extent_of d.extents)))
-    ++ text (map line (map fetch d.fetch))) ++ text (map line (map store d.store)))
-    ++ text (map line (storage (length d.storage) ∷ puts (length d.storage / 8) 0 d.storage)))
-    ++ text (map line (end ∷ [])) ≡ spelling d
-spelling_parts d =
-    let H = header (header_of d.version) ∷ device d.device ∷ mask d.mask ∷ start d.start ∷ limit_line d.version in
-    let E = map extent_of d.extents in
-    let F = map fetch d.fetch in
-    let S = map store d.store in
-    let P = storage (length d.storage) ∷ puts (length d.storage / 8) 0 d.storage in
-    sym (text_parts (H ++ E ++ F ++ S ++ P) (end ∷ [])
-    ∙ ap (λ t. t ++ text (map line (end ∷ []))) (text_parts (H ++ E ++ F ++ S) P
-    ∙ ap (λ t. t ++ text (map line P)) (text_parts (H ++ E ++ F) S
-    ∙ ap (λ t. t ++ text (map line S)) (text_parts (H ++ E) F
-    ∙ ap (λ t. t ++ text (map line F)) (text_parts H E)))))
+-- the text of six parts of a deck
+pub six_texts : (a b c d e f : List Item)
+    → ((((text (map line a) ++ text (map line b)) ++ text (map line c)) ++ text (map line d)) ++ text (map line e)) ++ text (map line f)
+    ≡ text (map line (a ++ b ++ c ++ d ++ e ++ f))
+six_texts a b c d e f = simp (map-append, flat_map-append, append_assoc)
 
 pub five_parts : (o a b c d e : List ℕ) → ((((o ++ a) ++ b) ++ c) ++ d) ++ e ≡ o ++ (a ++ (b ++ (c ++ (d ++ e))))
 five_parts o a b c d e = simp append_assoc
 
 -- ---- the text of needs
 
-pub kept_text : (areas : List Area) → flat_map (λ a. (codes "keep " ++ area_digits a) ++ 10 ∷ []) areas ≡ text (map keep_line areas)
-kept_text [] = refl
-kept_text (a ∷ areas) = ap (λ t. (keep_line a ++ 10 ∷ []) ++ t) (kept_text areas)
-
-five_same : (m n e f g s t k l : List ℕ) → m ≡ n → f ≡ g → s ≡ t → k ≡ l
-    → (((m ++ e) ++ f) ++ s) ++ k ≡ (((n ++ e) ++ g) ++ t) ++ l
-five_same m n e f g s t k l first second third fourth = rw (first, second, third, fourth) refl
-
--- what is written of needs, part by part
-pub needs_parts : (n : Listed) (F S K : List Area) → F ≡ in_six_digits n.fetch → S ≡ in_six_digits n.store
-    → K ≡ in_six_digits n.keep
-    → ((((line (mask n.mask) ++ 10 ∷ []) ++ text (map line (map extent_of n.extents)))
-    ++ text (map line (map fetch F))) ++ text (map line (map store S))) ++ text (map keep_line K) ≡ needs_text n
-needs_parts n F S K f s k =
-    let M = mask n.mask ∷ [] in
-    let E = map extent_of n.extents in
-    let fetched = map fetch (in_six_digits n.fetch) in
-    let stored = map store (in_six_digits n.store) in
-    let kept = map keep_line (in_six_digits n.keep) in
-    let begun : text (map line (granting n)) ≡ ((text (map line M) ++ text (map line E)) ++ text (map line fetched)) ++ text (map line stored) =
-    text_parts (M ++ E ++ fetched) stored ∙ ap (λ t. t ++ text (map line stored)) (text_parts (M ++ E) fetched
-    ∙ ap (λ t. t ++ text (map line fetched)) (text_parts M E)) in
-    five_same (line (mask n.mask) ++ 10 ∷ []) (text (map line M)) (text (map line E)) _ (text (map line fetched)) _ (text (map line stored)) _ (text kept)
-    (sym (append-nil (line (mask n.mask) ++ 10 ∷ [])))
-    (ap (λ areas. text (map line (map fetch areas))) f)
-    (ap (λ areas. text (map line (map store areas))) s)
-    (ap (λ areas. text (map keep_line areas)) k)
-    ∙ ap (λ t. t ++ text kept) (sym begun) ∙ sym (text-append (map line (granting n)) kept)
+-- the text of needs, part by part
+pub needs_parts : (a b c d : List Item) (ls : List (List ℕ))
+    → (((text (map line a) ++ text (map line b)) ++ text (map line c)) ++ text (map line d)) ++ text ls
+    ≡ text (map line (a ++ b ++ c ++ d) ++ ls)
+needs_parts a b c d ls = simp (map-append, flat_map-append, append_assoc)

@@ -1,5 +1,4 @@
-use Rattle.chan_deck.proofs.Names.{[], ap, append-nil, append_assoc, marked_row, storage_of, sym, ◌++◌, ◌∙◌, ◌∷◌}
-use Rattle.chan_deck.proofs.Failures.{not_failed}
+use Rattle.chan_deck.proofs.Names.{[], ap, append-nil, append_assoc, false_from_ne_true, marked_row, storage_of, sym, ◌++◌, ◌∙◌, ◌∷◌}
 use Rattle.chan_deck.proofs.ListingLemmas.{all_begun, row_added, row_begun}
 use Rattle.chan_deck.proofs.listing.write_rows.Goals as goal
 
@@ -8,7 +7,7 @@ loop-place-preserved g c =
     let ps = c.loop-place.yielded in
     record {
       all = append_assoc ps (c.in-Some.place ∷ []) c.next.new.self ∙ ap (λ z. ps ++ z) (sym c.in-Some.ensures.steps) ∙ c.loop-place.invariant.all;
-      sound = not_failed _ _ _ c.in_ok-write_row.ensures.write.1;
+      sound = false_from_ne_true _ (λ h. let never = c.in_ok-write_row.ensures.write.1 h in absurd cc);
       rows = row_added (marked_row (storage_of c.args.job.now) c.args.verdict) ps c.in-Some.place _ _ _
           c.loop-place.invariant.rows c.in_ok-write_row.ensures.ok;
     }

@@ -1,5 +1,5 @@
-use Rattle.chan_deck.proofs.Names.{ap, drop, length, List, next_multiple_of, replicate, rules, take, take_at, zeros, ℕ, ◌++◌, ◌+◌, ◌∙◌, ◌≡◌}
-use Rattle.chan_deck.proofs.PartLemmas.{storage_fits, storage_is}
+use Rattle.chan_deck.proofs.Names.{ap, arith, drop, length, List, next_multiple_of, replicate, rules, take, take_at, zeros, ℕ, ◌++◌, ◌+◌, ◌∙◌, ◌≡◌}
+use Rattle.chan_deck.proofs.PartLemmas.{length_storage, storage_is}
 use Rattle.chan_deck.proofs.parts.place_image.Goals as goal
 
 pub returns-clause-bytes : goal.returns-clause-bytes
@@ -20,4 +20,4 @@ returns-clause-bytes c =
     same ∙ storage_is at image new put
 
 pub returns-clause-size : goal.returns-clause-size
-returns-clause-size c = storage_fits c.args.at c.args.image.now _ (returns-clause-bytes c) c.requires
+returns-clause-size c = omega (arith, ap length (returns-clause-bytes c) ∙ length_storage c.args.at c.args.image.now, c.requires)

@@ -1,9 +1,6 @@
-use Rattle.chan_deck.proofs.Names.{[], ap, line, store, ◌++◌, ◌∙◌, ◌∷◌}
-use Rattle.chan_deck.proofs.Parted.{no_more}
-use Rattle.chan_deck.proofs.WriteLemmas.{each_text}
+use Rattle.chan_deck.proofs.Names.{take_all}
+use Rattle.std.proofs.lemmas.List.Folds.{flat_map-map}
 use Rattle.chan_deck.proofs.writing.write_store.Goals as goal
 
 pub returns : goal.returns
-returns c =
-    no_more (λ a. line (store a) ++ 10 ∷ []) c.args.areas.now c.loop-area.area-index _ _ c.loop-area-test.false c.loop-area.invariant
-    ∙ ap (λ t. c.args.out.now.items ++ t) (each_text store c.args.areas.now)
+returns c = simp flat_map-map (rw (take_all _ _ c.loop-area-test.false) at c.loop-area.invariant)
