@@ -1,7 +1,7 @@
 -- Numbers of three, four and eight bytes.
 use Rattle.chan_deck.proofs.Names.{[], AllByRecursion, ap, arith, bytes_high_first, drop, encode_upper, from_be_bytes, get_or, IsByte, length, List, refl, size_digits, STORAGE_LIMIT, sym, w32, ℕ, ◌%◌, ◌*◌, ◌+◌, ◌/◌, ◌<◌, ◌^◌, ◌∙◌, ◌∷◌, ◌≡◌}
 use Rattle.std.proofs.lemmas.Nat.{be_bytes_4}
-use Rattle.chan_deck.proofs.UpperDigits.{leading_zero}
+use Rattle.chan_deck.proofs.UpperDigits.{bytes_at, leading_zero}
 
 -- an address has the three bytes that it was made of
 pub address_bytes : (b : List ℕ) (n : ℕ) → length b ≡ 3 → ((i : ℕ) → get_or b i 0 < 256)
@@ -19,6 +19,9 @@ address_bytes (x ∷ y ∷ z ∷ []) n len fits e =
 
 pub bytes_three : (n : ℕ) → AllByRecursion IsByte (bytes_high_first 3 n)
 bytes_three n = (omega arith, (omega arith, (omega arith, tt)))
+
+-- what reading an address takes
+pub ruleset address_rules = (address_bytes, bytes_at, bytes_three)
 
 pub bytes_four : (n : ℕ) → AllByRecursion IsByte (bytes_high_first 4 n)
 bytes_four n = (omega arith, bytes_three n)

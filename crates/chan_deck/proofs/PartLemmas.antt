@@ -1,9 +1,10 @@
 -- The parts of a deck: its areas, and the storage of an image.
-use Rattle.chan_deck.proofs.Names.{[], all_append, AllByRecursion, ap, append_assoc, AreExtents, arith, drop, drop-replicate, Err, get_or, HasLimit, value_of_parts, is_mask, IsByte, IsDeck, length, length-append, length-replicate, List, next_multiple_of, Ok, replicate-append-replicate, Result, STORAGE_LIMIT, storage_with, suc, sym, take, take-replicate, true, zero, zeros, ℕ, ◌%◌, ◌*◌, ◌++◌, ◌+◌, ◌-◌, ◌/◌, ◌<◌, ◌∙◌, ◌∷◌, ◌≡◌, ◌≤◌}
+use Rattle.chan_deck.proofs.Names.{[], all_append, AllByRecursion, ap, append_assoc, AreExtents, arith, drop, drop-replicate, Err, get_or, HasLimit, value_of_parts, is_mask, IsByte, IsDeck, length, length-append, length-replicate, List, next_multiple_of, Ok, refl, replicate-append-replicate, Result, STORAGE_LIMIT, storage_with, suc, take, take-replicate, true, zero, zeros, ℕ, ◌%◌, ◌*◌, ◌++◌, ◌+◌, ◌-◌, ◌/◌, ◌<◌, ◌∙◌, ◌∷◌, ◌≡◌, ◌≤◌}
 use Rattle.std.proofs.Common.{IfOk, OnOk}
 use Rattle.chan_deck.specs.PartsValue.{HasShortAddresses, version_with}
 use Rattle.chan_deck.specs.declared.parts.Parts.{Parts}
 use Rattle.chan_deck.proofs.StepLemmas.{bytes_pad, bytes_zeros}
+use Rattle.chan_deck.proofs.WriteLemmas.{length_behind}
 
 -- an image that was put into zeros, with what stands before and behind it
 pub storage_is : (at : ℕ) (image bytes : List ℕ)
@@ -11,15 +12,11 @@ pub storage_is : (at : ℕ) (image bytes : List ℕ)
     ++ drop (at + length image) (zeros (next_multiple_of (at + length image) 8))
     → bytes ≡ storage_with at image
 storage_is at image bytes e =
-    let n = length image in
-    let len = next_multiple_of (at + n) 8 in
-    let rest = len - (at + n) in
+    let n = at + length image in
+    let len = next_multiple_of n 8 in
     let before : take at (zeros len) ≡ zeros at = take-replicate at len 0 (omega arith) in
-    let behind : drop (at + n) (zeros len) ≡ zeros rest = drop-replicate (at + n) len 0 in
-    let all : length (zeros at ++ image) ≡ at + n = length-append (zeros at) image ∙ ap (λ m. m + n) (length-replicate at 0) in
-    let end : rest ≡ next_multiple_of (length (zeros at ++ image)) 8 - length (zeros at ++ image) = omega (arith, all) in
-    e ∙ ap (λ t. (t ++ image) ++ drop (at + n) (zeros len)) before ∙ ap (λ t. (zeros at ++ image) ++ t) behind
-    ∙ ap (λ m. (zeros at ++ image) ++ zeros m) end
+    let behind : drop n (zeros len) ≡ zeros (len - n) = drop-replicate n len 0 in
+    e ∙ rw (before, behind, length_behind at image) refl
 
 -- what stands before the doublewords of an image, and these, are its storage
 pub doublewords_are : (at : ℕ) (image : List ℕ)
@@ -27,15 +24,9 @@ pub doublewords_are : (at : ℕ) (image : List ℕ)
 doublewords_are at image =
     let b = at % 8 in
     let n = length image in
-    let inner = length (zeros b ++ image) in
-    let rest = next_multiple_of inner 8 - inner in
     let front : zeros (8 * (at / 8)) ++ zeros b ≡ zeros at = replicate-append-replicate (8 * (at / 8)) b 0 ∙ ap (λ (m : ℕ). zeros m) (omega arith) in
-    let part : inner ≡ b + n = length-append (zeros b) image ∙ ap (λ m. m + n) (length-replicate b 0) in
-    let all : length (zeros at ++ image) ≡ at + n = length-append (zeros at) image ∙ ap (λ m. m + n) (length-replicate at 0) in
-    let end : rest ≡ next_multiple_of (length (zeros at ++ image)) 8 - length (zeros at ++ image) = omega (arith, all, part) in
-    sym (append_assoc (zeros (8 * (at / 8))) (zeros b ++ image) (zeros rest))
-    ∙ ap (λ t. t ++ zeros rest) (sym (append_assoc (zeros (8 * (at / 8))) (zeros b) image) ∙ ap (λ t. t ++ image) front)
-    ∙ ap (λ m. (zeros at ++ image) ++ zeros m) end
+    let end : next_multiple_of (b + n) 8 - (b + n) ≡ next_multiple_of (at + n) 8 - (at + n) = omega arith in
+    rw (length_behind at image, length_behind b image, end, ← append_assoc, ← append_assoc, front) refl
 
 pub all_bytes : (bytes : List ℕ) → ((i : ℕ) → get_or bytes i 0 < 256) → AllByRecursion IsByte bytes
 all_bytes [] h = tt

@@ -1,8 +1,5 @@
 -- What is written, line by line.
-use Rattle.chan_deck.proofs.Names.{[], ap, append-nil, append_assoc, flat_map-append, Area, area_digits, arith, Bool, codes, cond, device, drop, end, extent_of, false, fetch, flat_map, header, header_of, DeckValue, in_six_digits, is_zero, Item, keep_line, length, length-append, length-drop, length-replicate, limit_line, line, List, map, map-append, mask, put, puts, refl, replicate, spelling, start, storage, store, suc, sym, take, text, true, ℕ, ◌%◌, ◌*◌, ◌++◌, ◌+◌, ◌/◌, ◌<◌, ◌∙◌, ◌∷◌, ◌≡◌, ◌≤◌}
-use Rattle.chan_needs.specs.Listed.{Listed}
-use Rattle.chan_deck.specs.Needs.{granting, needs_text}
-use Rattle.chan_deck.proofs.FrontLemmas.{text-append}
+use Rattle.chan_deck.proofs.Names.{[], ap, append-nil, append_assoc, flat_map-append, arith, Bool, cond, drop, false, is_zero, Item, length, length-append, length-drop, length-replicate, line, List, map, map-append, put, puts, refl, replicate, suc, sym, take, text, true, ℕ, ◌%◌, ◌*◌, ◌++◌, ◌+◌, ◌/◌, ◌<◌, ◌∙◌, ◌∷◌, ◌≡◌, ◌≤◌}
 use Rattle.chan_deck.proofs.PutLemmas.{puts-append, puts-zero}
 
 -- ---- puts

@@ -27,6 +27,7 @@ pub(crate) fn spelled_byte(digits: &[u8]) -> Option<u8> {
 }
 
 /// An address of six digits.
+#[tactic(auto, using(crate::proofs::ByteNumbers::address_rules))]
 pub(crate) fn address_of(digits: &[u8]) -> Option<u32>
     ensures { MatchOption result
         ((n : ℕ) → IsAddress n → digits.now ≡ address_digits n → ⊥)
