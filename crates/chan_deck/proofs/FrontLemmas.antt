@@ -188,9 +188,7 @@ pub no_front : (t : List ℕ) (s : State) (n : ℕ) (rest l after : List ℕ) (c
 no_front t s n rest l after c st e all f =
     let ls = map line st.said in
     let n-is : n ≡ length ls + 1 = omega (arith, length-map st.said line, st.number) in
-    let first : take n (lines t) ≡ ls ++ l ∷ [] =
-    ap (λ k. take k (lines t)) n-is ∙ ap (λ x. take (length ls + 1) x) (lines_left t s n rest l after st e)
-    ∙ take-append-add ls (l ∷ (split after).0) 1 in
+    let first : take n (lines t) ≡ ls ++ l ∷ [] = rw (n-is, lines_left t s n rest l after st e) (take-append-add ls (l ∷ (split after).0) 1) in
     let d = front_lines (take n (lines t)) (all_take HasNoFeed n (lines t) (lines_no_feed t)) f in
     let deck : map line (items d.0) ≡ ls ++ l ∷ d.1 = d.3 ∙ ap (λ x. x ++ d.1) first ∙ append_assoc ls (l ∷ []) d.1 in
     let same = same_front st.said (items d.0) l d.1 st.forms (items_form d.0 d.2) deck in
@@ -228,9 +226,7 @@ refused_at_line t s n rest l after c st e all = record {
 
 pub refused_at_end : (t : List ℕ) (s : State) (n : ℕ) (rest : List ℕ) → HasRead t s n rest → split rest ≡ ([], rest) → IsRefusedAt t n
 refused_at_end t s n rest st e =
-    let len : length (lines t) ≡ length (map line st.said) =
-    ap (λ (p : List Line × List ℕ). length p.0) st.parts ∙ ap (λ (p : List Line × List ℕ). length (map line st.said ++ p.0)) e
-    ∙ ap length (append-nil (map line st.said)) in
+    let len : length (lines t) ≡ length (map line st.said) = rw (st.parts, lines, e) (ap length (append-nil (map line st.said))) in
     record {
       least = fronts t s n rest st;
       here = λ le f. absurd (omega (arith, len, length-map st.said line, st.number));

@@ -29,11 +29,7 @@ takes t s next n rest l after (Some i) st e says goes = record {
   said = st.said ++ i ∷ [];
   forms = all_append HasForm st.said (i ∷ []) st.forms (says.0, tt);
   runs = run-append Opening st.said (i ∷ []) ∙ ap (λ r. and_then r (λ q. run q (i ∷ []))) st.runs ∙ ap (λ r. and_then r (λ q. Ok q)) goes;
-  parts =
-      let more : map line st.said ++ l ∷ (split after).0 ≡ map line (st.said ++ i ∷ []) ++ (split after).0 =
-      ap (λ x. map line st.said ++ x ∷ (split after).0) says.1 ∙ sym (append_assoc (map line st.said) (line i ∷ []) (split after).0)
-      ∙ ap (λ x. x ++ (split after).0) (sym (map-append line st.said (i ∷ []))) in
-      st.parts ∙ ap (λ (p : List (List ℕ) × List ℕ). (map line st.said ++ p.0, p.1)) e ∙ ap (λ x. (x, (split after).1)) more;
+  parts = rw (map-append, append_assoc, ← says.1) (st.parts ∙ ap (λ (p : List (List ℕ) × List ℕ). (map line st.said ++ p.0, p.1)) e);
   number = omega (arith, st.number, length-append st.said (i ∷ []));
 }
 
@@ -43,15 +39,13 @@ behind_said : (t : List ℕ) (s : State) (n : ℕ) (rest : List ℕ) (st : HasRe
 behind_said t s n rest st =
     let ls = map line st.said in
     let k : n - 1 ≡ length ls = omega (arith, length-map st.said line, st.number) in
-    ap (λ j. found_in (drop j (lines t)) (split t).1) k
-    ∙ ap (λ (p : List (List ℕ) × List ℕ). found_in (drop (length ls) p.0) p.1) st.parts
-    ∙ ap (λ x. found_in x (split rest).1) (drop-append_seam ls (split rest).0)
+    rw (k, st.parts, lines) (ap (λ x. found_in x (split rest).1) (drop-append_seam ls (split rest).0))
 
 are_said : (t : List ℕ) (s : State) (n : ℕ) (rest : List ℕ) (st : HasRead t s n rest) → AreSaid (n - 1) t st.said
 are_said t s n rest st =
     let ls = map line st.said in
     let k : n - 1 ≡ length ls = omega (arith, length-map st.said line, st.number) in
-    (st.forms, sym (ap (λ j. take j (lines t)) k ∙ ap (λ (p : List (List ℕ) × List ℕ). take (length ls) p.0) st.parts ∙ take-append_seam ls (split rest).0))
+    (st.forms, rw (k, st.parts, lines) (sym (take-append_seam ls (split rest).0)))
 
 with_cause : (t : List ℕ) (s : State) (n : ℕ) (rest : List ℕ) (found : FoundLine) (c : Cause)
     (st : HasRead t s n rest)
