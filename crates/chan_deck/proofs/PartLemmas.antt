@@ -61,3 +61,13 @@ pub from_facts : {T E A B C : Type 0} {P Q : T → Type 0} (r : Result T E) → 
     → OnOk r B → OnOk r C → ((x : T) → P x → A → B → C → Q x) → IfOk r Q
 from_facts (Ok x) p a b c f = f x p a b c
 from_facts (Err e) p a b c f = tt
+
+-- what holds holds where a value came
+pub on_ok : {T E A : Type 0} (r : Result T E) → A → OnOk r A
+on_ok (Ok t) a = a
+on_ok (Err e) a = tt
+
+-- storage in which an image ends isn't too large
+pub storage_fits : (at : ℕ) (image storage : List ℕ) → storage ≡ storage_with at image
+    → at + length image ≤ STORAGE_LIMIT → length storage ≤ STORAGE_LIMIT
+storage_fits at image storage is short = omega (arith, ap length is ∙ length_storage at image, short)

@@ -247,7 +247,6 @@ fn write_rows<W: Write>(
 /// Each row is written with one write: no text of the whole listing is held. `Write` comes exactly
 /// if a write failed. After an error a prefix of the listing was written. The places and the
 /// verdict are taken as the caller hands them in, whether or not they are the job's.
-#[tactic(auto, using(ccw_core::proofs::Prefixes::prefix_after))]
 pub fn write_listing<W: Write>(
     alloc: Global,
     job: &Job,
