@@ -24,8 +24,9 @@ those of 512 bytes shared a list, it would take almost four times as many.
 
 RATIOS holds what chanv takes of what bench/limit.c takes, a verifier by hand in C, over decks of
 bench/ and in calls of the library, and CALLS holds the calls that it doesn't have. Both are the
-figures of the proved program and a few percent more. limit.c gives the answers of chanv over
-decks of examples/, refused decks and random jobs, so that it does the same work.
+figures of the proved program and a few percent more. GROWTHS holds how often a call about a few
+places asks for memory. limit.c gives the answers of chanv over decks of examples/, refused decks and
+random jobs, so that it does the same work.
 
 valgrind counts the instructions; without it this part is left out, by its name.
 """
@@ -128,30 +129,32 @@ LONG_WORDS = [
 
 # the most times the instructions of bench/limit.c, and the most of calls that it doesn't have
 RATIOS = {
-    "verify places-65536": 4.14,
-    "verify chain-65536": 4.14,
-    "verify comb-65536": 4.99,
-    "verify scattered-65536": 6.25,
-    "verify areas-apart-65536": 3.67,
-    "verify extents": 4.67,
-    "verify full-storage": 4.58,
-    "list places-65536": 3.18,
-    "list chain-65536": 2.91,
-    "list comb-65536": 5.70,
-    "list scattered-65536": 6.13,
-    "find in 16 MiB of zeros": 11.66,
+    "verify places-65536": 3.62,
+    "verify chain-65536": 3.69,
+    "verify comb-65536": 4.40,
+    "verify scattered-65536": 5.62,
+    "verify areas-apart-65536": 2.84,
+    "verify extents": 3.09,
+    "verify full-storage": 3.56,
+    "list places-65536": 2.95,
+    "list chain-65536": 2.73,
+    "list comb-65536": 3.73,
+    "list scattered-65536": 4.16,
+    "find in 16 MiB of zeros": 11.65,
     "find in 16 MiB of noise": 12.56,
-    "chanv_verify, 1 place": 5.42,
-    "chanv_verify, 8 places": 4.68,
-    "chanv_verify, 64 places": 3.96,
+    "chanv_verify, 1 place": 3.80,
+    "chanv_verify, 8 places": 3.48,
+    "chanv_verify, 64 places": 3.65,
 }
 CALLS = {
-    "chanv_take_in, 1 place": 13_500,
-    "chanv_take_in, 8 places": 35_100,
-    "chanv_take_in, 64 places": 185_000,
-    "chanv_check_start, 8 places": 123_000,
+    "chanv_take_in, 1 place": 11_500,
+    "chanv_take_in, 8 places": 29_200,
+    "chanv_take_in, 64 places": 181_300,
+    "chanv_check_start, 8 places": 122_500,
     "chanv_check_write, 8 places": 63_500,
 }
+# how often a call asks for memory, at most
+GROWTHS = {"chanv_verify, 1 place": 3, "chanv_verify, 8 places": 3}
 # plain rustc's programs take up to so many times as much as the proved ones
 BY_RUSTC = 1.2
 
@@ -316,6 +319,16 @@ def check_limit(checks, program, limit, room):
         checks.expect(f"limit.c, {command} over {len(decks)} decks", *both)
 
 
+def growths(call):
+    """How often one call more asks for memory."""
+
+    def allocations(times):
+        ran = subprocess.run(["valgrind", *call, str(times)], stderr=subprocess.PIPE, check=True)
+        return int(re.search(rb"total heap usage: ([\d,]+)", ran.stderr)[1].replace(b",", b""))
+
+    return allocations(2) - allocations(1)
+
+
 def check_ratios(checks, built, room):
     bench, program, library = of_bench("ratios"), built.chanv(), built.library()
     check_limit(checks, program, bench.compiled_limit(room), room)
@@ -333,6 +346,9 @@ def check_ratios(checks, built, room):
         seen = count / of_limit[0] if of_limit else count
         kind = "times the instructions of limit.c" if of_limit else "instructions"
         checks.expect_that(f"{asked.name}, at most {most:g} {kind}", 0 < seen <= most, f"{seen:g}")
+        if asked.name in GROWTHS:
+            seen, most = growths(asked.chanv), GROWTHS[asked.name]
+            checks.expect_that(f"{asked.name}, at most {most} growths", 0 < seen <= most, seen)
     checks.expect("limits of what isn't measured", [], [*limits])
 
 

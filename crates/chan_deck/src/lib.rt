@@ -44,6 +44,7 @@ mod numbers;
 mod own_mask;
 mod parts;
 mod picture_layout;
+mod placed_bytes;
 mod plain_text;
 mod ranged;
 mod reading;

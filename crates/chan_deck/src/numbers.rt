@@ -5,7 +5,7 @@ ghost use Rattle.hex.specs.Hex.{IsBytes, encode_upper};
 ghost use Rattle.chan_deck.specs.Item.{IsAddress, IsByte, address_digits, byte_digits};
 ghost use Rattle.chan_deck.specs.Item.{cylinder_digits, limit_digits, size_digits};
 
-use crate::storage_lines::write_at;
+use crate::placed_bytes::write_at;
 use byteorder::{BigEndian, ByteOrder};
 use ccw_core::read_digits;
 use hex::FromHex;

@@ -8,7 +8,7 @@ ghost use Rattle.chan_deck.specs.PartsValue.{HasShortAddresses, value_of_parts, 
 ghost use Rattle.chan_deck.specs.PartsValue.{version_with, zeros};
 ghost use Rattle.ccw_core.specs.declared.ccw.TheConstants.{STORAGE_LIMIT};
 
-use crate::storage_lines::write_at;
+use crate::placed_bytes::write_at;
 use crate::version::Version;
 use crate::writing::{Preamble, text_of};
 use ccw_core::Area;

@@ -1,7 +1,6 @@
 //! The lines of storage.
 
-ghost use Rattle.std.specs.Prelude.{◌≡◌, ◌+◌, ◌≤◌, ℕ, List, [], ◌++◌, length, replicate};
-ghost use Rattle.std.specs.Prelude.{take, drop, MatchResult};
+ghost use Rattle.std.specs.Prelude.{◌≡◌, ℕ, List, [], length, replicate, MatchResult};
 ghost use Rattle.ccw_core.specs.declared.areas.Area.{Area};
 ghost use Rattle.chan_deck.specs.DeckValue.{Spells};
 ghost use Rattle.chan_deck.specs.Reading.{Filling, IsDeckError, HasReadTo, value_of};
@@ -11,15 +10,7 @@ use crate::cause::Cause;
 use crate::deck_error::DeckError;
 use crate::item::Item;
 use crate::lines::Cursor;
-
-/// Writes bytes into storage.
-pub(crate) fn write_at(storage: &mut [u8], at: usize, bytes: &[u8])
-    requires { at + length bytes.now ≤ length storage.old }
-    ensures { storage.new
-        ≡ (take at storage.old ++ bytes.now) ++ drop (at + length bytes.now) storage.old }
-{
-    storage[at..at + bytes.len()].copy_from_slice(bytes);
-}
+use crate::placed_bytes::write_at;
 
 /// Puts what follows the line of storage, up to the end of the deck, into storage, which is zero
 /// before. It isn't inlined: by itself it keeps all that the loop uses in registers.

@@ -84,7 +84,8 @@ impl Walk {
         }
     }
 
-    /// Adds the successors of the place of this index. It is inlined into the one loop that calls it.
+    /// Adds the successors of the place of this index. It is inlined into the only loop that calls
+    /// it.
     #[inline(always)]
     fn add_successors(&mut self, job: &Job, lent: &Lent, at: usize) -> Result<(), WalkError>
         requires lent { AreLent job.now lent.now }

@@ -17,7 +17,8 @@ pub returns-in_err-bytes : goal.returns-in_err-bytes
 returns-in_err-bytes c = on_none _ _ _ c.from_residual-in_err-bytes.ensures (λ a word says.
     let found = rw (c.in_ok-address.address-is, c.in_ok-address.word-is) at c.in_ok-address.ensures in
     let same = same_behind (codes "put ") _ _ (address_digits a) (encode_upper word) (found.0 ∙ sym (length-address_digits a)) (sym found.1 ∙ says.1) in
-    c.in_err-bytes.ensures (bytes_high_first 3 a ++ word) (omega (arith, says.0.1.0)) (bytes_at (bytes_high_first 3 a ++ word) (omega arith, (omega arith, (omega arith, says.0.1.1))))
+    c.in_err-bytes.ensures (bytes_high_first 3 a ++ word) (omega (arith, says.0.1.0))
+    (bytes_at (bytes_high_first 3 a ++ word) (omega arith, (omega arith, (omega arith, says.0.1.1))))
     (rw (same.0, same.1) (address_and a word)))
 
 pub returns : goal.returns

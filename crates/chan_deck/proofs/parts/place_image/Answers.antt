@@ -8,7 +8,7 @@ returns-clause-bytes c =
     let at = c.args.at in
     let size = next_multiple_of (at + length image) 8 in
     let old = c.as_mut_slice.result.now in
-    let new = c.write_at.new.storage in
+    let new = c.write_at.new.room in
     let items = c.in_ok-storage.storage.items in
     let len : length old ≡ size = c.as_mut_slice.ensures.len ∙ c.in_ok-storage.ensures.len ∙ c.next_multiple_of-len.ensures.value in
     let zero : old ≡ replicate (length old) 0 = search rules in
@@ -16,7 +16,7 @@ returns-clause-bytes c =
     let put : new ≡ (take at (zeros size) ++ image) ++ drop (at + length image) (zeros size) =
     c.write_at.ensures ∙ ap (λ (t : List ℕ). (take at t ++ image) ++ drop (at + length image) t) empty in
     let same : take c.in_ok-storage.storage.len (new ++ drop (length new) items) ≡ new =
-    take_at new (drop (length new) items) c.in_ok-storage.storage.len (c.write_at.auto.storage ∙ c.as_mut_slice.ensures.len) in
+    take_at new (drop (length new) items) c.in_ok-storage.storage.len (c.write_at.auto.room ∙ c.as_mut_slice.ensures.len) in
     same ∙ storage_is at image new put
 
 pub returns-clause-size : goal.returns-clause-size

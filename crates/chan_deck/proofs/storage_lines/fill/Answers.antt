@@ -11,7 +11,7 @@ loop-address-preserved c =
     let a = c.in-Put.address in
     let item = rw c.in-Put.is at c.next_item-item.ensures.next in
     let word = to_be_bytes w64 c.in-Put.word in
-    let new = c.write_at.new.storage in
+    let new = c.write_at.new.room in
     let is : new ≡ (take a S ++ word) ++ drop (a + length word) S =
     subst (λ w. new ≡ (take a S ++ w) ++ drop (a + length w) S) c.to_be_bytes.ensures c.write_at.ensures in
     let w = written S new word c.loop-address.next a c.loop-address.invariant.behind (omega arith) (omega arith) refl is in

@@ -25,7 +25,9 @@ loop-index-preserved c i low s = go (cases_lt i c.loop-index.index)
     go : (i < c.loop-index.index) ⊎ (c.loop-index.index ≤ i) → ⊥
     go (inl before) = c.loop-index.invariant i before s
     go (inr le) =
-        let same = same_at (places_of_looks c.args.looks.now) c.loop-index.index i c.index-looks-index.result.place c.args.place there s (omega (arith, low, le)) in
+        let same =
+        same_at (places_of_looks c.args.looks.now) c.loop-index.index i c.index-looks-index.result.place c.args.place there s
+        (omega (arith, low, le)) in
         c.if-number.false (c.number.ensures ∙ ap place_number (c.place.ensures ∙ same) ∙ sym c.number-number.ensures)
 
 pub returns : goal.returns

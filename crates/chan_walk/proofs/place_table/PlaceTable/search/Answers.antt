@@ -10,7 +10,8 @@ pub loop-end-init : goal.loop-end-init
 loop-end-init c =
     let ls = c.args.looks.now in
     let len : c.len.result ≡ length c.args.self.now.last.items = omega (arith, c.len.ensures, c.args.self.now.last.ok.0) in
-    let left = left_last c.args.self.now (places_of_looks ls) c.args.place c.list_of.result c.index.result.now (by_lists _ _ (λ e. absurd (omega (arith, e, c.args.self.now.last.ok.0))) c.requires)
+    let lists = by_lists _ _ (λ e. absurd (omega (arith, e, c.args.self.now.last.ok.0))) c.requires in
+    let left = left_last c.args.self.now (places_of_looks ls) c.args.place c.list_of.result c.index.result.now lists
     (c.list_of.ensures.list ∙ ap (λ n. list_of n c.args.place.address) len) c.index.ensures in
     (left, omega (arith, left.within, number_of_places ls))
 
@@ -25,7 +26,8 @@ pub loop-end-smaller : goal.loop-end-smaller
 loop-end-smaller c =
     let l = c.index-looks-index.result in
     let there = look_below _ c.args.looks.now c.args.place c.loop-end.end l c.loop-end.invariant.0 c.loop-end-test.true c.index-looks-index.is in
-    (left_look c.args.self.now c.args.looks.now c.args.place l.place c.loop-end.end c.index-in-loop-end.result.now (by_lists _ _ (λ e. absurd (omega (arith, e, c.args.self.now.last.ok.0))) c.requires) c.loop-end.invariant.0
+    let lists = by_lists _ _ (λ e. absurd (omega (arith, e, c.args.self.now.last.ok.0))) c.requires in
+    (left_look c.args.self.now c.args.looks.now c.args.place l.place c.loop-end.end c.index-in-loop-end.result.now lists c.loop-end.invariant.0
     c.loop-end-test.true there (λ e. c.if-number.false
     (c.number.ensures ∙ ap place_number c.place.ensures ∙ e ∙ sym c.number-in-loop-end.ensures)) c.index-in-loop-end.ensures).1
 
@@ -33,7 +35,8 @@ pub loop-end-preserved : goal.loop-end-preserved
 loop-end-preserved c =
     let l = c.index-looks-index.result in
     let there = look_below _ c.args.looks.now c.args.place c.loop-end.end l c.loop-end.invariant.0 c.loop-end-test.true c.index-looks-index.is in
-    let on = left_look c.args.self.now c.args.looks.now c.args.place l.place c.loop-end.end c.index-in-loop-end.result.now (by_lists _ _ (λ e. absurd (omega (arith, e, c.args.self.now.last.ok.0))) c.requires) c.loop-end.invariant.0
+    let lists = by_lists _ _ (λ e. absurd (omega (arith, e, c.args.self.now.last.ok.0))) c.requires in
+    let on = left_look c.args.self.now c.args.looks.now c.args.place l.place c.loop-end.end c.index-in-loop-end.result.now lists c.loop-end.invariant.0
     c.loop-end-test.true there (λ e. c.if-number.false
     (c.number.ensures ∙ ap place_number c.place.ensures ∙ e ∙ sym c.number-in-loop-end.ensures)) c.index-in-loop-end.ensures in
     (on.0, omega (arith, on.1, c.loop-end.invariant.1))
