@@ -202,7 +202,10 @@ pub(crate) fn put_of(line: &[u8]) -> Option<(u32, u64)>
     }
     let (address, word) = field(line, b"put ", 6, b" ")?;
     let bytes = read_fields::<22, 11>(address, word)?;
-    Some((BigEndian::read_u24(&bytes), BigEndian::read_u64(&bytes[3..])))
+    Some((
+        BigEndian::read_u24(&bytes),
+        BigEndian::read_u64(&bytes[3..]),
+    ))
 }
 
 /// What a line says, if it isn't a put.

@@ -26,8 +26,7 @@ returns c =
     let first = address_first _ _ bytes c.read_u24.result found.0 read.2 read.1 (omega (arith, c.read_u24.ensures)) in
     let len : length (drop 3 bytes) ≡ 3 = omega (arith, length-drop 3 bytes, read.0) in
     let number = c.read_u24-2.ensures ∙ ap (λ t. big_number 3 t) (take_all 3 (drop 3 bytes) (omega (arith, len))) in
-    let last = address_bytes (drop 3 bytes) c.read_u24-2.result len first.3 (omega (arith, number)) in
-    (
+    let last = address_bytes (drop 3 bytes) c.read_u24-2.result len first.3 (omega (arith, number)) in (
       (first.0, last.0),
       found.1 ∙ ap (λ t. c.args.word.now ++ (t ++ 32 ∷ c.in_ok-start.len.now)) first.1
           ∙ ap (λ t. c.args.word.now ++ (address_digits c.read_u24.result ++ 32 ∷ t)) (first.2 ∙ ap encode_upper (sym last.1)),

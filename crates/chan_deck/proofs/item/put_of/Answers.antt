@@ -30,8 +30,7 @@ returns c =
     let first = address_first _ _ bytes c.read_u24.result found.0 read.2 read.1 (omega (arith, c.read_u24.ensures)) in
     let len : length (drop 3 bytes) ≡ 8 = omega (arith, length-drop 3 bytes, read.0) in
     let number = c.read_u64.ensures ∙ ap (λ t. big_number 8 t) (take_all 8 (drop 3 bytes) (omega (arith, len))) in
-    let word = be_bytes_8 (drop 3 bytes) n len first.3 (omega (arith, number)) in
-    (
+    let word = be_bytes_8 (drop 3 bytes) n len first.3 (omega (arith, number)) in (
       (first.0, search rules),
       found.1 ∙ ap (λ t. codes "put " ++ (t ++ 32 ∷ c.in_ok-address.word.now)) first.1
           ∙ ap (λ t. codes "put " ++ (address_digits c.read_u24.result ++ 32 ∷ t)) (first.2 ∙ ap encode_upper (sym word)),
