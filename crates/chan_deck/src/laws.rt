@@ -13,7 +13,6 @@ fn one_text()
 {}
 
 /// Decks compare as equal exactly where they are one deck.
-#[tactic(auto, using(crate::proofs::SameLemmas::same_is, crate::proofs::SameLemmas::is_same))]
 fn equal_decks()
     ensures one { (d e : DeckValue) → same_decks d e ≡ true → d ≡ e }
     ensures equal { (d e : DeckValue) → d ≡ e → same_decks d e ≡ true }
