@@ -161,7 +161,8 @@ impl Merged {
 }
 
 /// Adds an area to a list that is to be merged. If it doesn't begin before the last area, and no
-/// byte lies between the two, that one grows instead: so a list in order stays short.
+/// byte lies between the two, that one grows instead: so a list in order stays short. It is inlined,
+/// because mostly it does nothing else.
 #[inline(always)]
 pub fn add_area(areas: &mut Areas, area: Area) -> Result<(), AllocError>
     requires low { All (EndsBelow (2 ^ 32)) areas.old.items }

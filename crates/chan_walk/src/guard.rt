@@ -38,8 +38,8 @@ impl Model for Guard {
 
 impl Guard {
     /// The guard of a job whose reachable places are these. Each of them is looked at once. The
-    /// cost is that of sorting an area for each place, six for each seek, one for each Set File
-    /// Mask, and the areas lent.
+    /// cost is that of sorting an area for each place, at most six for each seek, one for each Set
+    /// File Mask, and the areas lent.
     pub fn new(alloc: Global, job: &Job, explored: &Explored) -> Result<Guard, AllocError>
         requires { AreReachable job.now explored.now }
         ensures { IfOk result (Guards job.now) }
