@@ -161,7 +161,7 @@ impl Merged {
 }
 
 /// Adds an area to a list that is to be merged. If it doesn't begin before the last area, and no
-/// byte lies between the two, that one grows instead: so a list in order stays short. It is inlined,
+/// byte lies between the two, that one grows instead: so a list in order stays short. Inline,
 /// because mostly it does nothing else.
 #[inline(always)]
 pub fn add_area(areas: &mut Areas, area: Area) -> Result<(), AllocError>
