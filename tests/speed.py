@@ -24,7 +24,7 @@ those of 512 bytes shared a list, it would take almost four times as many.
 
 RATIOS holds what chanv takes of what bench/limit.c takes, a verifier by hand in C, over decks of
 bench/ and in calls of the library, and CALLS holds the calls that it doesn't have. Both are the
-figures of the proved program and a few percent more. GROWTHS holds how often a call about a few
+figures of the proved program and a few percent more. ALLOCATIONS holds how often a call about a few
 places asks for memory. limit.c gives the answers of chanv over decks of examples/, refused decks and
 random jobs, so that it does the same work.
 
@@ -154,7 +154,7 @@ CALLS = {
     "chanv_check_write, 8 places": 63_500,
 }
 # how often a call asks for memory, at most
-GROWTHS = {"chanv_verify, 1 place": 3, "chanv_verify, 8 places": 3}
+ALLOCATIONS = {"chanv_verify, 1 place": 3, "chanv_verify, 8 places": 3}
 # plain rustc's programs take up to so many times as much as the proved ones
 BY_RUSTC = 1.2
 
@@ -319,14 +319,14 @@ def check_limit(checks, program, limit, room):
         checks.expect(f"limit.c, {command} over {len(decks)} decks", *both)
 
 
-def growths(call):
+def allocations(call):
     """How often one call more asks for memory."""
 
-    def allocations(times):
+    def counted(times):
         ran = subprocess.run(["valgrind", *call, str(times)], stderr=subprocess.PIPE, check=True)
         return int(re.search(rb"total heap usage: ([\d,]+)", ran.stderr)[1].replace(b",", b""))
 
-    return allocations(2) - allocations(1)
+    return counted(2) - counted(1)
 
 
 def check_ratios(checks, built, room):
@@ -346,9 +346,9 @@ def check_ratios(checks, built, room):
         seen = count / of_limit[0] if of_limit else count
         kind = "times the instructions of limit.c" if of_limit else "instructions"
         checks.expect_that(f"{asked.name}, at most {most:g} {kind}", 0 < seen <= most, f"{seen:g}")
-        if asked.name in GROWTHS:
-            seen, most = growths(asked.chanv), GROWTHS[asked.name]
-            checks.expect_that(f"{asked.name}, at most {most} growths", 0 < seen <= most, seen)
+        if asked.name in ALLOCATIONS:
+            seen, most = allocations(asked.chanv), ALLOCATIONS[asked.name]
+            checks.expect_that(f"{asked.name}, at most {most} allocations", 0 < seen <= most, seen)
     checks.expect("limits of what isn't measured", [], [*limits])
 
 
