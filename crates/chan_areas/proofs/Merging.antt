@@ -1,18 +1,19 @@
 -- Bytes of areas, how they stay the same while areas are merged, and that there is one merged list for them.
-use Rattle.std.proofs.Common.{set, ◌^◌, ◌≡◌, ℕ, suc, ◌+◌, ◌-◌, ◌++◌, ◌↔◌, inl, inr, ◌<◌, ◌≤◌, true, ◌||◌, ◌&&◌, nat_le, nat_lt, List, [], ◌∷◌, length, get_or, take, drop, refl, sym, ap, ◌∙◌, subst, ◌⊎◌, arith, append_assoc, IsPermutation, rules}
-use Rattle.std.proofs.lemmas.Grind.{common_steps}
+use Rattle.std.proofs.Common.{max, None, Bool, false, set, ◌^◌, ◌≡◌, ℕ, suc, ◌+◌, ◌-◌, ◌++◌, ◌↔◌, inl, inr, ⊎_elim, ◌<◌, ◌≤◌, true, ◌||◌, ◌&&◌, nat_le, nat_lt, List, [], ◌∷◌, length, get_or, take, drop, refl, sym, ap, ◌∙◌, subst, ◌⊎◌, arith, append_assoc, IsPermutation, rules}
 use Rattle.std.specs.Cmp.Derive.{one_truth}
+use Rattle.std.specs.Bool.{MatchBool}
 use Rattle.std.specs.List.{All, refill}
+use Rattle.std.specs.List.Retain.{DedupsFrom, IsDeduped}
 use Rattle.std.specs.List.Sorted.{IsNonDecreasingBy}
 use Rattle.std.proofs.lemmas.Bool.{cases_lt, or_cases, or_left, or_right, and_from, le-leb, lt-ltb, both_ways}
-use Rattle.std.proofs.lemmas.List.{get_or-set_other, get_or_default, length-set, take_all, take_at, take_more, take_more_set}
-use Rattle.std.proofs.lemmas.List.Elements.{All-append, All-cons, All-head, All-nil, All-tail}
+use Rattle.std.proofs.lemmas.List.{length-set, take_all, take_at, take_more, take_more_set}
+use Rattle.std.proofs.lemmas.List.Elements.{All-set, All-cons, All-head, All-nil, All-tail}
 use Rattle.std.proofs.lemmas.List.Folds.{list_any-append}
 use Rattle.std.proofs.lemmas.List.Sorted.{list_any-IsPermutation}
 use Rattle.ccw_core.specs.declared.areas.Area.{Area}
 use Rattle.ccw_core.specs.Areas.{end_of, lies_in}
 use Rattle.ccw_core.proofs.Covering.{lies_in-nil}
-use Rattle.chan_areas.specs.Merged.{start_of, IsByteOf, EndsBelow, BeginAbove, IsMerged, AreExactly, AreMergedTo, AreRuns, HaveSameBytes, IsOneRun, MergedIsUnique}
+use Rattle.chan_areas.specs.Merged.{start_of, IsByteOf, EndsBelow, BeginAbove, IsMerged, AreExactly, HaveSameBytes, AreInOrder, IsTaken, IsJoined, IsOneRun, MergedIsUnique}
 
 -- ---- bytes of areas
 
@@ -66,76 +67,41 @@ pub run_ends : (xs ys : List Area) (run area : Area) → ys ≡ xs ++ run ∷ []
 run_ends xs ys run area e b = ap (λ z. lies_in (z ++ area ∷ []) b) e ∙ ap (λ z. lies_in z b) (append_assoc xs (run ∷ []) (area ∷ []))
 
 -- the run grows
-pub run_grows : (xs : List Area) (run area r : Area) → r.start ≡ run.start → end_of r ≡ end_of area → run.start ≤ area.start
-    → area.start ≤ end_of run → end_of run ≤ end_of area → HaveSameBytes (xs ++ r ∷ []) (xs ++ run ∷ area ∷ [])
-run_grows xs run area r s e order near far b = search (rules, same_after, one_for_two, cases_lt)
+pub run_grows : (xs : List Area) (run area r : Area) → r.start ≡ run.start → end_of r ≡ max (end_of run) (end_of area) → run.start ≤ area.start
+    → area.start ≤ end_of run → HaveSameBytes (xs ++ r ∷ []) (xs ++ run ∷ area ∷ [])
+run_grows xs run area r s e order near b = search (rules, same_after, one_for_two, cases_lt)
 
 -- a list that takes back as many areas as it lent has these
 pub refilled : (areas given : List Area) → length given ≡ length areas → refill (length areas) areas given ≡ given
 refilled areas given e = take_at given (drop (length given) areas) (length areas) e
 
 -- the last area of a list grows
-pub last_grows : (areas : List Area) (k : ℕ) (run area r : Area) → k + 1 ≡ length areas → run ≡ get_or areas k run → IsOneRun run area r
-    → HaveSameBytes (set areas k r) (areas ++ area ∷ [])
-last_grows areas k run area r e is one b =
-    let whole : areas ≡ take k areas ++ run ∷ [] =
-    sym (take_all (k + 1) areas (omega (arith, e))) ∙ take_more areas k run (omega (arith, e)) ∙ ap (λ z. take k areas ++ z ∷ []) (sym is) in
-    let grown : set areas k r ≡ take k areas ++ r ∷ [] =
-    sym (take_all (k + 1) (set areas k r) (omega (arith, e, length-set areas k r))) ∙ take_more_set areas k r (omega (arith, e)) in
-    ap (λ z. lies_in z b) grown ∙ one.bytes (take k areas) b ∙ sym (run_ends (take k areas) areas run area whole b)
+pub last_grows : (areas : List Area) (last area r : Area) → 0 < length areas → last ≡ get_or areas (length areas - 1) last → last.start ≤ area.start
+    → All (EndsBelow (2 ^ 32)) areas → EndsBelow (2 ^ 32) area → (AreInOrder last area → IsOneRun last area r)
+    → All (EndsBelow (2 ^ 32)) (set areas (length areas - 1) r) × HaveSameBytes (set areas (length areas - 1) r) (areas ++ area ∷ [])
+last_grows areas last area r some is order low fits joined =
+    let k = length areas - 1 in
+    let front = take k areas in
+    let one = joined (order, subst (EndsBelow (2 ^ 32)) (sym is) (low k last (omega arith)), fits) in
+    let whole : areas ≡ front ++ last ∷ [] =
+    sym (take_all (k + 1) areas (omega arith)) ∙ take_more areas k last (omega arith) ∙ ap (λ z. front ++ z ∷ []) (sym is) in
+    let grown : set areas k r ≡ front ++ r ∷ [] =
+    sym (take_all (k + 1) (set areas k r) (omega (arith, length-set areas k r))) ∙ take_more_set areas k r (omega arith) in
+    (All-set (EndsBelow (2 ^ 32)) areas k r one.low low, λ b. ap (λ z. lies_in z b) grown ∙ one.bytes front b ∙ sym (run_ends front areas last area whole b))
 
--- ---- what is merged so far
+-- ---- one area more
 
 above_push : (n : ℕ) (xs : List Area) (a : Area) → BeginAbove n xs → n < a.start → BeginAbove n (xs ++ a ∷ [])
 above_push n [] a h l = (l, tt)
 above_push n (x ∷ xs) a h l = (h.0, above_push n xs a h.1 l)
 
--- what holds of each of a list holds of the rest
-all_rest : (P : Area → Type 0) (x : Area) (xs : List Area) → All P (x ∷ xs) → All P xs
-all_rest P x xs h i d l = h (suc i) d (omega arith)
-
-pub all_one : (P : Area → Type 0) (x : Area) → P x → All P (x ∷ [])
-all_one P x h k d l = search rules
-
 pub merged_push : (xs : List Area) (a : Area) → IsMerged xs → All (EndsBelow a.start) xs → 0 < a.len → IsMerged (xs ++ a ∷ [])
 merged_push [] a m e p = (p, tt, tt)
-merged_push (x ∷ xs) a m e p = (m.0, above_push (end_of x) xs a m.1 (e 0 x (omega arith)), merged_push xs a m.2 (all_rest (EndsBelow a.start) x xs e) p)
-
-pub runs_first : (xs : List Area) (run : Area) → xs ≡ [] → AreRuns xs run
-runs_first xs run e = subst (λ z. AreRuns z run) (sym e) (record { merged = tt; before = λ i d l. absurd (omega arith) })
-
--- the run at a later start
-pub runs_later : (xs : List Area) (run area : Area) → run.start ≤ area.start → AreRuns xs run → AreRuns xs area
-runs_later xs run area l r = record { merged = r.merged; before = λ i d k. let e = r.before i d k in omega arith }
-
-pub runs_push : (xs ys : List Area) (run area : Area) → ys ≡ xs ++ run ∷ [] → 0 < run.len → end_of run < area.start → AreRuns xs run → AreRuns ys area
-runs_push xs ys run area e p l r = grind (arith, common_steps, All-append, runs_later, all_one, merged_push)
-
--- ---- over areas in order of start
-
--- the areas to come begin no earlier than the run
-pub order_next : (xs : List Area) (i k r : ℕ) (z d : Area) → IsNonDecreasingBy start_of xs
-    → r ≤ (get_or xs i z).start → i + 1 ≤ k → k < length xs → r ≤ (get_or xs k d).start
-order_next xs i k r z d s l h b = let e = s i k z (omega arith) b in let f = ap start_of (get_or_default xs k z d b) in omega arith
-
--- the bytes so far, with those of the next area
-pub bytes_next : (merged now xs : List Area) (run r area : Area) (i b : ℕ) → i < length xs
-    → get_or xs i area ≡ area → lies_in (merged ++ run ∷ []) b ≡ lies_in (take i xs) b
-    → lies_in (now ++ r ∷ []) b ≡ lies_in (merged ++ run ∷ area ∷ []) b → lies_in (now ++ r ∷ []) b ≡ lies_in (take (i + 1) xs) b
-bytes_next merged now xs run r area i b l e f g =
-    g
-    ∙ ap (λ z. lies_in z b) (sym (append_assoc merged (run ∷ []) (area ∷ [])))
-    ∙ same_before (merged ++ run ∷ []) (take i xs) (area ∷ []) b f
-    ∙ ap (λ z. lies_in (take i xs ++ z ∷ []) b) (sym e)
-    ∙ ap (λ z. lies_in z b) (sym (take_more xs i area l))
+merged_push (x ∷ xs) a m e p = (m.0, above_push (end_of x) xs a m.1 (e 0 x (omega arith)), merged_push xs a m.2 (All-tail (EndsBelow a.start) x xs e) p)
 
 -- an empty run has no bytes
 pub bytes_empty : (xs : List Area) (run : Area) (b : ℕ) → run.len ≡ 0 → lies_in xs b ≡ lies_in (xs ++ run ∷ []) b
 bytes_empty xs run b e = search (rules, lies_in-append, or_left, or_cases, both_ways, lies_in-nil, lies_in-cases)
-
--- none so far
-pub bytes_first : (now : List Area) (run : Area) (xs : List Area) (b : ℕ) → now ≡ [] → run.len ≡ 0 → lies_in (take 0 xs) b ≡ lies_in (now ++ run ∷ []) b
-bytes_first now run xs b e f = ap (λ z. lies_in z b) (sym e) ∙ bytes_empty now run b f
 
 -- ---- there is one
 
@@ -217,13 +183,6 @@ ends_low n (a ∷ rest) merged low =
 pub exactly_low : (n : ℕ) (areas merged : List Area) → AreExactly (λ b. lies_in areas b ≡ true) merged → All (EndsBelow n) areas → All (EndsBelow n) merged
 exactly_low n areas merged h low = ends_low n merged h.merged (λ b lies. lies_low n areas b low ((h.bytes b).0 lies))
 
--- merged areas with the bytes of areas that are sorted have those of the areas as they were given
-pub exactly_sorted : (xs sorted given merged : List Area) → IsPermutation xs sorted → given ≡ sorted
-    → IsMerged merged → HaveSameBytes merged given → AreExactly (λ b. lies_in xs b ≡ true) merged
-exactly_sorted xs sorted given merged p e m h =
-    let same : HaveSameBytes merged xs = λ b. h b ∙ ap (λ z. lies_in z b) e ∙ sym (lies_in-IsPermutation xs sorted b p) in
-    record { merged = m; bytes = λ b. ((λ k. sym (same b) ∙ k), λ k. same b ∙ k) }
-
 -- the bytes of two lists, merged
 pub merged_both : {P Q : ℕ → Type 0} (xs ys all merged : List Area) → all ≡ xs ++ ys → AreExactly (λ b. lies_in all b ≡ true) merged
     → ((b : ℕ) → (lies_in xs b ≡ true) ↔ P b) → ((b : ℕ) → (lies_in ys b ≡ true) ↔ Q b) → AreExactly (λ b. P b ⊎ Q b) merged
@@ -242,69 +201,133 @@ merged_both {P} {Q} xs ys all merged e h first second = record {
       );
 }
 
--- ---- one area more
+-- ---- areas in order of start, joined
 
-module _ (given areas : List Area) (runs : ℕ) (run : Area) (at : ℕ) (area : Area) (m : AreMergedTo given areas runs run at)
-    (within : at < length areas) (is : area ≡ get_or areas at area) where
-  below : at < length given
-  below = omega (arith, m.each, within)
+-- each area begins no earlier than the one before it, and the first not before n
+abbrev BeginFrom : ℕ → List Area → Type 0
+BeginFrom n [] = Unit {0}
+BeginFrom n (a ∷ rest) = (n ≤ a.start) × BeginFrom a.start rest
 
-  here : (d : Area) → get_or given at d ≡ area
-  here d = get_or_default given at d area below ∙ sym (m.rest at area (omega arith)) ∙ sym is
+begin_from : (n : ℕ) (xs : List Area) → IsNonDecreasingBy start_of xs
+    → ((k : ℕ) (d : Area) → k < length xs → n ≤ (get_or xs k d).start) → BeginFrom n xs
+begin_from n [] s l = tt
+begin_from n (x ∷ xs) s l =
+    (l 0 x (omega arith), begin_from x.start xs (λ i j d le lt. s (suc i) (suc j) d (omega arith) (omega arith)) (λ k d lt. s 0 (suc k) d (omega arith) (omega arith)))
 
-  pub fits : EndsBelow (2 ^ 32) area
-  fits = subst (EndsBelow (2 ^ 32)) (here area) (m.fit at area below)
+begin_sooner : (m n : ℕ) (xs : List Area) → m ≤ n → BeginFrom n xs → BeginFrom m xs
+begin_sooner m n [] l h = tt
+begin_sooner m n (x ∷ xs) l h = (omega (arith, h.0), h.1)
 
-  pub later : run.start ≤ area.start
-  later = subst (λ (a : Area). run.start ≤ a.start) (here area) (m.order at area (omega arith) below)
+-- one area, and that one empty
+abbrev IsEmptyRun : List Area → Type 0
+IsEmptyRun [] = ⊥
+IsEmptyRun (a ∷ []) = a.len ≡ 0
+IsEmptyRun (a ∷ x ∷ xs) = ⊥
 
-  ahead : (start k : ℕ) (d : Area) → start ≤ area.start → at + 1 ≤ k → k < length given → start ≤ (get_or given k d).start
-  ahead start k d le low high = order_next given at k start area d m.sorted (subst (λ (a : Area). start ≤ a.start) (sym (here area)) le) low high
+empty_run : (runs : List Area) (b : ℕ) → IsEmptyRun runs → lies_in runs b ≡ true → ⊥
+empty_run [] b e h = e
+empty_run (a ∷ []) b e h = search (rules, lies_in-cases, lies_in-nil, both_ways)
+empty_run (a ∷ x ∷ xs) b e h = e
 
-  pub run_goes_on : (r : Area) → IsOneRun run area r → AreMergedTo given areas runs r (at + 1)
-  run_goes_on r one = record {
-    sorted = m.sorted;
-    fit = m.fit;
-    each = m.each;
-    rest = λ k d le. m.rest k d (omega (arith, le));
-    done = omega (arith, m.done);
-    begun = λ p. omega (arith, m.done);
-    apart = runs_later (take runs areas) run r one.later m.apart;
-    low = one.low;
-    order = λ k d le lt. ahead r.start k d one.order le lt;
-    bytes = λ b. bytes_next (take runs areas) (take runs areas) given run r area at b below (here area) (m.bytes b) (one.bytes (take runs areas) b);
-  }
+one_run : (run : Area) → IsMerged (run ∷ []) ⊎ IsEmptyRun (run ∷ [])
+one_run run = ⊎_elim (λ h. inl (h, tt, tt)) (λ h. inr (omega arith)) (cases_lt 0 run.len)
 
-  pub run_is_done : 0 < run.len → end_of run < area.start → AreMergedTo given (set areas runs run) (runs + 1) area (at + 1)
-  run_is_done some gap = record {
-    sorted = m.sorted;
-    fit = m.fit;
-    each = length-set areas runs run ∙ m.each;
-    rest = λ k d le. get_or-set_other areas runs k run d (λ e. absurd (omega (arith, e, m.done, le))) ∙ m.rest k d (omega (arith, le));
-    done = omega (arith, m.done);
-    begun = λ p. omega (arith, m.begun some);
-    apart = runs_push (take runs areas) (take (runs + 1) (set areas runs run)) run area front some gap m.apart;
-    low = fits;
-    order = λ k d le lt. ahead area.start k d (omega arith) le lt;
-    bytes = λ b.
-        bytes_next (take runs areas) (take (runs + 1) (set areas runs run)) given run area area at b below (here area) (m.bytes b)
-        (run_ends (take runs areas) (take (runs + 1) (set areas runs run)) run area front b);
-  }
-    where
-      front : take (runs + 1) (set areas runs run) ≡ take runs areas ++ run ∷ []
-      front = take_more_set areas runs run (omega (arith, m.done, within))
+-- the runs of areas, the first of which begins at n
+record AreRuns (n : ℕ) (areas runs : List Area) : Type 0 where
+  bytes : HaveSameBytes runs areas
+  above : (m : ℕ) → m < n → BeginAbove m runs
+  merged : IsMerged runs ⊎ IsEmptyRun runs
 
-pub merged_first : (given : List Area) (run : Area) → IsNonDecreasingBy start_of given → All (EndsBelow (2 ^ 32)) given
-    → run.start ≡ 0 → run.len ≡ 0 → AreMergedTo given given 0 run 0
-merged_first given run sorted fit start len = record {
-  sorted = sorted;
-  fit = fit;
-  each = refl;
-  rest = λ k d le. refl;
-  done = omega arith;
-  begun = λ p. absurd (omega (arith, p, len));
-  apart = runs_first [] run refl;
-  low = omega (arith, start, len);
-  order = λ k d le lt. omega (arith, start);
-  bytes = λ b. sym (bytes_first [] run given b refl len);
+-- an area goes into the run before it
+run_goes_on : (run area r : Area) (areas runs : List Area) → IsOneRun run area r → AreRuns r.start (r ∷ areas) runs
+    → AreRuns run.start (run ∷ area ∷ areas) runs
+run_goes_on run area r areas runs one h = record {
+  bytes = λ b. h.bytes b ∙ same_before (r ∷ []) (run ∷ area ∷ []) areas b (one.bytes [] b);
+  above = λ m l. h.above m (omega (arith, one.later));
+  merged = h.merged;
 }
+
+-- or a byte lies between the two
+run_is_done : (run area : Area) (areas runs : List Area) → IsJoined run area None → AreRuns area.start (area ∷ areas) runs
+    → AreRuns run.start (run ∷ area ∷ areas) (run ∷ runs)
+run_is_done run area areas runs gap h = record {
+  bytes = λ b. same_after (run ∷ []) runs (area ∷ areas) b (h.bytes b);
+  above = λ m l. (l, h.above m (omega (arith, gap)));
+  merged = inl (gap.0, h.above (end_of run) gap.2, ⊎_elim (λ m. m) (λ e. absurd (filled e)) h.merged);
+}
+  where
+    filled : IsEmptyRun runs → ⊥
+    filled e = empty_run runs area.start e (h.bytes area.start ∙ lies_in-first area areas area.start (omega arith, omega (arith, gap)))
+
+abbrev Fits : Area → Type 0
+Fits = EndsBelow (2 ^ 32)
+
+-- the runs of all of them
+abbrev pub AreLeftOf : List Area → List Area → Type 0
+AreLeftOf xs ys = HaveSameBytes ys xs × (IsMerged ys ⊎ IsEmptyRun ys)
+
+-- without the only run, if that is empty
+pub none_left : (xs ys : List Area) (run : Area) → 0 < length ys → run ≡ get_or ys 0 run → run.len ≡ 0 → AreLeftOf xs ys → HaveSameBytes [] xs
+none_left xs [] run l is e h b = absurd (omega arith)
+none_left xs (a ∷ ys) run l is e h b =
+    one_truth (lies_in [] b) (lies_in (a ∷ ys) b) (λ k. absurd (both_ways (lies_in [] b) (lies_in-nil b) k)) (λ k. absurd (none k)) ∙ h.0 b
+  where
+    none : lies_in (a ∷ ys) b ≡ true → ⊥
+    none k = ⊎_elim (λ m. absurd (omega (arith, m.0, e, ap (λ (x : Area). x.len) is))) (λ r. empty_run (a ∷ ys) b r k) h.1
+
+-- runs of which the first isn't empty are merged
+pub all_left : (xs ys : List Area) (run : Area) → (0 < length ys → (run ≡ get_or ys 0 run) × (0 < run.len)) → AreLeftOf xs ys → IsMerged ys
+all_left xs ys run some h = ⊎_elim (λ m. m) (λ e. absurd (go ys e some)) h.1
+  where
+    go : (zs : List Area) → IsEmptyRun zs → (0 < length zs → (run ≡ get_or zs 0 run) × (0 < run.len)) → ⊥
+    go [] e l = e
+    go (a ∷ []) e l = let first = l (omega arith) in absurd (omega (arith, e, first.1, ap (λ (x : Area). x.len) first.0))
+    go (a ∷ x ∷ zs) e l = e
+
+-- so runs of sorted areas are the one merged list for the areas as they were given
+pub runs_are : (xs sorted runs : List Area) → IsPermutation xs sorted → HaveSameBytes runs sorted → IsMerged runs → AreExactly (λ b. lies_in xs b ≡ true) runs
+runs_are xs sorted runs p h m =
+    let same : HaveSameBytes runs xs = λ b. h b ∙ sym (lies_in-IsPermutation xs sorted b p) in
+    record { merged = m; bytes = λ b. ((λ k. sym (same b) ∙ k), λ k. same b ∙ k) }
+
+-- a closure that joins areas
+abbrev Joins : {S : Type 0} → (S → Area → Area → Bool → S → Area → Area → Type 0) → Type 0
+Joins {S} R = (s : S) (area run : Area) (b : Bool) (t : S) (kept r : Area) → R s area run b t kept r
+    → (kept ≡ area) × IsTaken run area b r
+
+module _ {S : Type 0} (R : S → Area → Area → Bool → S → Area → Area → Type 0) (goes : Joins R) where
+  runs_from : (s : S) (run : Area) (xs ys : List Area) → BeginFrom run.start xs → All (EndsBelow (2 ^ 32)) (run ∷ xs)
+      → DedupsFrom R s run xs ys → AreRuns run.start (run ∷ xs) ys
+  runs_from s run [] ys order low h = record {
+    bytes = λ b. ap (λ z. lies_in z b) h;
+    above = λ m l. subst (BeginAbove m) (sym h) (l, tt);
+    merged = subst (λ z. IsMerged z ⊎ IsEmptyRun z) (sym h) (one_run run);
+  }
+  runs_from s run (x ∷ xs) ys order low h =
+      let one = goes s x run h.0 h.1 h.2 h.3 h.4 in
+      next h.0 one.1 h.5
+      (λ r o l d. runs_from h.1 r xs ys o l d)
+      (λ zs d. runs_from h.1 x xs zs order.1 (All-tail Fits run (x ∷ xs) low) (subst (λ k. DedupsFrom R h.1 k xs zs) one.0 d))
+    where
+      given : AreInOrder run x
+      given = (order.0, All-head Fits run (x ∷ xs) low, All-head Fits x xs (All-tail Fits run (x ∷ xs) low))
+
+      next : (b : Bool) → IsTaken run x b h.3 → MatchBool b (DedupsFrom R h.1 h.3 xs ys) ((zs : List Area) × DedupsFrom R h.1 h.2 xs zs × (ys ≡ h.3 ∷ zs))
+          → ((r : Area) → BeginFrom r.start xs → All Fits (r ∷ xs) → DedupsFrom R h.1 r xs ys → AreRuns r.start (r ∷ xs) ys)
+          → ((zs : List Area) → DedupsFrom R h.1 h.2 xs zs → AreRuns x.start (x ∷ xs) zs) → AreRuns run.start (run ∷ x ∷ xs) ys
+      next true taken rest on done =
+          let one = taken given in
+          run_goes_on run x h.3 xs ys one
+          (on h.3 (begin_sooner h.3.start x.start xs one.order order.1) (All-cons Fits h.3 xs one.low (All-tail Fits x xs (All-tail Fits run (x ∷ xs) low))) rest)
+      next false gap rest on done =
+          subst (AreRuns run.start (run ∷ x ∷ xs)) (sym (rest.2 ∙ ap (λ z. z ∷ rest.0) gap.0)) (run_is_done run x xs rest.0 (gap.1 given) (done rest.0 rest.1))
+
+pub runs_of : {S : Type 0} {R : S → Area → Area → Bool → S → Area → Area → Type 0} {s : S} {given : List Area} (xs ys : List Area)
+    → IsDeduped R s given ys → given ≡ xs → IsNonDecreasingBy start_of xs → All Fits xs → Joins R → AreLeftOf xs ys
+runs_of {R = R} {s = s} xs ys h e = go xs (subst (λ z. IsDeduped R s z ys) e h)
+  where
+    go : (xs : List Area) → IsDeduped R s xs ys → IsNonDecreasingBy start_of xs → All Fits xs → Joins R → AreLeftOf xs ys
+    go [] h order low goes = (λ b. ap (λ z. lies_in z b) h.told, inl (subst IsMerged (sym h.told) tt))
+    go (x ∷ xs) h order low goes =
+        let runs = runs_from R goes s x xs ys (begin_from 0 (x ∷ xs) order (λ k d l. omega arith)).1 low h.told in
+        (runs.bytes, runs.merged)

@@ -1,8 +1,6 @@
 -- Areas of storage merged into one list, and ranges that meet such a list.
 use Rattle.std.specs.Prelude.{◌≡◌, ℕ, ◌+◌, ◌<◌, ◌≤◌, ◌^◌, true, false, List, [], ◌∷◌, ◌++◌, Option}
-use Rattle.std.specs.Prelude.{None, Some, ◌↔◌, length, slice_index_or, take}
-use Rattle.std.specs.List.{All}
-use Rattle.std.specs.List.Sorted.{IsNonDecreasingBy}
+use Rattle.std.specs.Prelude.{None, Some, ◌↔◌, Bool}
 use Rattle.ccw_core.specs.declared.areas.Area.{Area}
 use Rattle.ccw_core.specs.Areas.{end_of, lies_in}
 
@@ -48,11 +46,6 @@ pub record Meets (areas : List Area) (start len : ℕ) : Type 0 where
   pub below : at < start + len
   pub lies : lies_in areas at ≡ true
 
--- a merged list, and a run after it that may still grow
-pub record AreRuns (areas : List Area) (run : Area) : Type 0 where
-  pub merged : IsMerged areas
-  pub before : All (EndsBelow run.start) areas
-
 -- what a run and the next area are together: a run that begins no earlier than the old one and no
 -- later than the area, and has the bytes of both
 pub record IsOneRun (run area r : Area) : Type 0 where
@@ -61,25 +54,19 @@ pub record IsOneRun (run area r : Area) : Type 0 where
   pub low : EndsBelow (2 ^ 32) r
   pub bytes : (xs : List Area) → HaveSameBytes (xs ++ r ∷ []) (xs ++ run ∷ area ∷ [])
 
--- the same, or that the run is done, since a byte lies between
+-- the same, or that neither is empty and a byte lies between them
 abbrev pub IsJoined : Area → Area → Option Area → Type 0
-IsJoined run area None = (0 < run.len) × (end_of run < area.start)
+IsJoined run area None = (0 < run.len) × (0 < area.len) × (end_of run < area.start)
 IsJoined run area (Some r) = IsOneRun run area r
 
--- of the given areas, in order of start, the first `at` are merged: into the first runs of a list,
--- which has the other areas from there on, and a last run
-pub record AreMergedTo (given areas : List Area) (runs : ℕ) (run : Area) (at : ℕ) : Type 0 where
-  pub sorted : IsNonDecreasingBy start_of given
-  pub fit : All (EndsBelow (2 ^ 32)) given
-  pub each : length areas ≡ length given
-  pub rest : (k : ℕ) (d : Area) → at ≤ k → slice_index_or areas k d ≡ slice_index_or given k d
-  pub done : runs ≤ at
-  pub begun : 0 < run.len → runs < at
-  pub apart : AreRuns (take runs areas) run
-  pub low : EndsBelow (2 ^ 32) run
-  pub order : (k : ℕ) (d : Area) → at ≤ k → k < length given
-      → run.start ≤ (slice_index_or given k d).start
-  pub bytes : HaveSameBytes (take runs areas ++ run ∷ []) (take at given)
+-- the area begins no earlier than the run, and each ends below 2^32
+abbrev pub AreInOrder : Area → Area → Type 0
+AreInOrder run area = (run.start ≤ area.start) × EndsBelow (2 ^ 32) run × EndsBelow (2 ^ 32) area
+
+-- the run r that is left of a run where the next area went into it, or stayed
+abbrev pub IsTaken : Area → Area → Bool → Area → Type 0
+IsTaken run area true r = AreInOrder run area → IsOneRun run area r
+IsTaken run area false r = (r ≡ run) × (AreInOrder run area → IsJoined run area None)
 
 -- the first area of a merged list that ends above n: all that it says of the bytes from n on, up to
 -- the one after the area

@@ -1,16 +1,14 @@
 //! Areas merged into one list, in which a byte or a range is found by binary search.
 
 ghost use Rattle.std.specs.Prelude.{◌≡◌, ◌<◌, ◌≤◌, ◌+◌, ◌++◌, ◌∷◌, ◌^◌, ◌↔◌, List, [], false};
-ghost use Rattle.std.specs.Prelude.{true, length, take, IfOk, IsTrue, OnOk};
+ghost use Rattle.std.specs.Prelude.{true, IfOk, IsTrue, OnOk};
 ghost use Rattle.std.specs.List.{All};
-ghost use Rattle.std.specs.List.Sorted.{IsNonDecreasingBy};
 ghost use Rattle.ccw_core.specs.Areas as areas;
 ghost use Rattle.ccw_core.specs.Areas.{IsGap, lies_in};
 ghost use Rattle.ccw_core.specs.declared.areas.Area.{Area};
-ghost use Rattle.chan_areas.specs.Merged.{AreExactly, AreMergedTo, AreRuns, EndsBelow};
-ghost use Rattle.chan_areas.specs.Merged.{HaveSameBytes, IsByteIn, IsByteOf, IsJoined};
-ghost use Rattle.chan_areas.specs.Merged.{IsLeastOrNone, IsMerged};
-ghost use Rattle.chan_areas.specs.Merged.{IsNextArea, Meets, MergedIsUnique, start_of};
+ghost use Rattle.chan_areas.specs.Merged.{AreExactly, EndsBelow, HaveSameBytes, IsByteIn};
+ghost use Rattle.chan_areas.specs.Merged.{IsByteOf, IsJoined, IsLeastOrNone, IsMerged};
+ghost use Rattle.chan_areas.specs.Merged.{AreInOrder, IsTaken, IsNextArea, Meets, MergedIsUnique};
 
 use crate::clip::clip;
 use ccw_core::Area;
@@ -52,8 +50,26 @@ impl Merged {
         ensures { AreExactly (λ b. lies_in areas.items b ≡ true) result }
     {
         let mut areas = areas;
-        let count = merge(areas.as_mut_slice());
-        areas.truncate(count);
+        areas.as_mut_slice().sort_unstable_by_key(|area| area.start);
+        areas.dedup_by(
+            |area: &mut Area, run: &mut Area| -> bool
+                ensures { (area.exit.now ≡ area.entry.now)
+                    × IsTaken run.entry.now area.entry.now result run.exit.now }
+            {
+                match join(*run, *area) {
+                    Some(joined) => {
+                        *run = joined;
+                        true
+                    }
+                    None => false,
+                }
+            },
+        );
+        if let Some(run) = areas.as_slice().first() {
+            if run.len == 0 {
+                areas.clear();
+            }
+        }
         Merged { areas }
     }
 
@@ -182,12 +198,10 @@ pub fn add_area(areas: &mut Areas, area: Area) -> Result<(), AllocError>
     Ok(())
 }
 
-/// The run that a run and the next area are together; `None` if a byte lies between them.
+/// The run that a run and the next area are together; `None` if a byte lies between them. It says
+/// nothing of areas that are out of order or end too high.
 fn join(run: Area, area: Area) -> Option<Area>
-    requires order { run.start ≤ area.start }
-    requires low { EndsBelow (2 ^ 32) run }
-    requires fits { EndsBelow (2 ^ 32) area }
-    ensures { IsJoined run area result }
+    ensures { AreInOrder run area → IsJoined run area result }
 {
     if area.len == 0 {
         return Some(run);
@@ -195,77 +209,14 @@ fn join(run: Area, area: Area) -> Option<Area>
     if run.len == 0 {
         return Some(area);
     }
-    let end = run.start + run.len;
-    if end < area.start {
+    if end_of(&run) < u64::from(area.start) {
         return None;
     }
-    let last = area.start + area.len;
-    if last <= end {
-        return Some(run);
-    }
+    let ahead = area.start.saturating_sub(run.start);
     Some(Area {
         start: run.start,
-        len: last - run.start,
+        len: run.len.max(ahead.saturating_add(area.len)),
     })
-}
-
-/// Merges one area more into the first runs of a list, and gives their number and the last run.
-fn merge_next(areas: &mut [Area], runs: usize, run: Area, at: usize) -> (usize, Area)
-    requires merged { (given : List Area) × AreMergedTo given areas.old runs run at }
-    requires within { at < length areas.old }
-    ensures { (given : List Area) → AreMergedTo given areas.old runs run at
-        → AreMergedTo given areas.new result.0 result.1 (at + 1) }
-{
-    let area = areas[at];
-    if let Some(joined) = join(run, area) {
-        return (runs, joined);
-    }
-    areas[runs] = run;
-    (runs + 1, area)
-}
-
-/// Adds the last run to the others, unless it is empty, and gives their number.
-fn end_last(areas: &mut [Area], runs: usize, run: Area) -> usize
-    requires runs { AreRuns (take runs areas.old) run }
-    requires room { 0 < run.len → runs < length areas.old }
-    ensures merged { IsMerged (take result areas.new) }
-    ensures bytes { HaveSameBytes (take result areas.new)
-        (take runs areas.old ++ run ∷ []) }
-    ensures size { length areas.new ≡ length areas.old }
-{
-    if run.len == 0 {
-        return runs;
-    }
-    areas[runs] = run;
-    runs + 1
-}
-
-/// Merges areas that are in order of start. The runs take the places of the first areas; their
-/// number is the result.
-fn merge_sorted(areas: &mut [Area]) -> usize
-    requires sorted { IsNonDecreasingBy start_of areas.old }
-    requires low { All (EndsBelow (2 ^ 32)) areas.old }
-    ensures merged { IsMerged (take result areas.new) }
-    ensures bytes { HaveSameBytes (take result areas.new) areas.old }
-    ensures size { length areas.new ≡ length areas.old }
-{
-    let mut runs = 0;
-    let mut run = Area { start: 0, len: 0 };
-    for at in 0..areas.len() {
-        (runs, run) = merge_next(areas, runs, run, at);
-    }
-    end_last(areas, runs, run)
-}
-
-/// Merges areas in any order, each of which ends below 2^32, and gives the number of runs.
-fn merge(areas: &mut [Area]) -> usize
-    requires { All (EndsBelow (2 ^ 32)) areas.old }
-    ensures runs { AreExactly (λ b. lies_in areas.old b ≡ true) (take result areas.new) }
-    ensures low { All (EndsBelow (2 ^ 32)) (take result areas.new) }
-    ensures size { length areas.new ≡ length areas.old }
-{
-    areas.sort_unstable_by_key(|area| area.start);
-    merge_sorted(areas)
 }
 
 /// A law: two merged lists with equal bytes are equal.

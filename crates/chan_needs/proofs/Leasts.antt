@@ -4,8 +4,10 @@ use Rattle.std.proofs.Common.{◌||◌}
 use Rattle.std.proofs.lemmas.Bool.{false_from_ne_true, ne_eqb}
 use Rattle.std.proofs.lemmas.List.Folds.{list_any-append}
 use Rattle.chan_needs.proofs.Holding.{nowhere}
-use Rattle.chan_areas.specs.Merged.{AreRuns}
-use Rattle.chan_areas.proofs.Merging.{lies_in-append, runs_first, runs_later, runs_push}
+use Rattle.std.specs.List.{All}
+use Rattle.std.proofs.lemmas.List.Elements.{All-append, All-cons, All-nil}
+use Rattle.chan_areas.specs.Merged.{EndsBelow}
+use Rattle.chan_areas.proofs.Merging.{lies_in-append, merged_push}
 use Rattle.chan_areas.proofs.Searching.{merged_order}
 use Rattle.chan_needs.specs.Row.{besides}
 
@@ -111,21 +113,25 @@ least_swapped P Q o = least_same _ _ o (λ b h. (h.1, h.0)) (λ b h. (h.1, h.0))
 
 -- the areas before i are merged and end before n; if all areas are merged, area i begins at n or above
 pub record AreMergedBefore (xs : List Area) (i n : ℕ) : Type 0 where
-  pub runs : AreRuns (take i xs) (record { start = n; len = 0 })
+  pub merged : IsMerged (take i xs)
+  pub before : All (EndsBelow n) (take i xs)
   pub begins : IsMerged xs → i < length xs → n ≤ (get_or xs i nowhere).start
 
 pub merged_first : (xs : List Area) → AreMergedBefore xs 0 0
-merged_first xs = record { runs = runs_first [] _ refl; begins = λ m l. omega arith }
+merged_first xs = record { merged = tt; before = λ k d l. absurd (omega arith); begins = λ m l. omega arith }
 
 pub merged_next : (xs : List Area) (i n m : ℕ) → i < length xs → 0 < (get_or xs i nowhere).len → n ≤ (get_or xs i nowhere).start
     → m ≡ end_of (get_or xs i nowhere) + 1 → AreMergedBefore xs i n → AreMergedBefore xs (i + 1) m
 merged_next xs i n m l filled begun e h = record {
-  runs = runs_push _ _ (get_or xs i nowhere) _ (take_more xs i nowhere l) filled (omega arith) (runs_later _ _ _ begun h.runs);
+  merged = subst IsMerged (sym (take_more xs i nowhere l)) (merged_push (take i xs) (get_or xs i nowhere) h.merged (λ k d b. let f = h.before k d b in omega arith) filled);
+  before =
+      subst (All (EndsBelow m)) (sym (take_more xs i nowhere l))
+      (All-append (EndsBelow m) (take i xs) (get_or xs i nowhere ∷ []) (λ k d b. let f = h.before k d b in omega arith) (All-cons (EndsBelow m) (get_or xs i nowhere) [] (omega arith) (All-nil (EndsBelow m))));
   begins = λ all k. let f = merged_order xs i (i + 1) nowhere all (omega arith) k in omega arith;
 }
 
 pub merged_all : (xs : List Area) (i n : ℕ) → length xs ≤ i → AreMergedBefore xs i n → IsMerged xs
-merged_all xs i n l h = subst IsMerged (take_all i xs l) h.runs.merged
+merged_all xs i n l h = subst IsMerged (take_all i xs l) h.merged
 
 pub ruleset merged_rules = (merged_first, merged_all)
 

@@ -42,8 +42,8 @@ impl<T, const N: usize> SmallVec<T, N> {
         Ok(())
     }
 
-    pub fn truncate(&mut self, len: usize) {
-        self.0.truncate(len);
+    pub fn dedup_by<F: FnMut(&mut T, &mut T) -> bool>(&mut self, same_bucket: F) {
+        self.0.dedup_by(same_bucket);
     }
 
     pub fn clear(&mut self) {

@@ -7,7 +7,7 @@ returns-then-start-run-clause-bytes c b =
     let old = c.args.areas.now.items in
     let run = c.args.run in
     let byte = byte_area c.args.start in
-    run_grows old run byte _ refl (omega arith) (omega arith) (omega arith) (omega arith) b
+    run_grows old run byte _ refl (omega arith) (omega arith) (omega arith) b
     ∙ sym (run_ends old (old ++ run ∷ []) run byte refl b)
 
 pub returns-clause-bytes : goal.returns-clause-bytes
