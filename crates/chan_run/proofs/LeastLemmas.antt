@@ -185,12 +185,6 @@ least_asked o image n d least short needs is =
         (of.mask ∙ ap (λ (x : DeckValue). x.mask) is) (of.extents ∙ ap (λ (x : DeckValue). x.extents) is)
         (of.fetch ∙ ap (λ (x : DeckValue). x.fetch) is) (of.store ∙ ap (λ (x : DeckValue). x.store) is)
 
--- a deck with just what is needed
-pub grants_needs : (d : DeckValue) (n : Listed) (extents : List (ℕ × ℕ)) (fetch store : List Area)
-    → extents ≡ extents_for n.extents → fetch ≡ in_six_digits n.fetch → store ≡ in_six_digits n.store
-    → record d { mask = n.mask; extents = extents; fetch = fetch; store = store } ≡ granting_just d n
-grants_needs d n extents fetch store one two three = rw (one, two, three) refl
-
 -- the range of all of storage has all of its bytes
 pub whole_range : (s bytes : List ℕ) → Some bytes ≡ range_at s 0 (length s) → bytes ≡ s
 whole_range s bytes is =

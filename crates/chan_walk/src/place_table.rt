@@ -11,8 +11,8 @@ use crate::look::Look;
 use crate::place::Place;
 use std::alloc::{AllocError, Global};
 
-/// How many places a walk has room for at first. So many are found without lists.
-pub(crate) const FEW: usize = 16;
+/// So many places are found without lists.
+const FEW: usize = 16;
 
 /// A table gets more lists once a place was compared with more places than this.
 const LONG: usize = 64;
@@ -143,12 +143,9 @@ fn index_among(looks: &[Look], place: Place) -> Option<usize>
     ensures { IsIndexOf (places_of_looks looks.now) place result }
 {
     let number = place.number();
-    for index in 0..looks.len() {
-        if looks[index].place().number() == number {
-            return Some(index);
-        }
-    }
-    None
+    looks
+        .iter()
+        .position(|look| look.place().number() == number)
 }
 
 /// The list in which the places at an address are.

@@ -13,10 +13,13 @@ use crate::lent::{Lending, Lent};
 use crate::look::{Look, look_by};
 use crate::marks::marks_of_looks;
 use crate::place::{Place, first_place};
-use crate::place_table::{FEW, PlaceTable};
+use crate::place_table::PlaceTable;
 use crate::places::Explored;
 use crate::walk_error::WalkError;
 use std::alloc::Global;
+
+/// How many places a walk has room for at first.
+const ROOM: usize = 64;
 
 /// What is seen of the places found, in the order in which they were.
 #[derive(Drop)]
@@ -140,8 +143,8 @@ pub(crate) fn walk_all(alloc: Global, job: &Job) -> Result<Walk, WalkError>
     let _limit = job.limit.get();
     let lent = Lent::new(alloc, job)?;
     let mut walk = Walk {
-        looks: Vec::with_capacity(alloc, FEW)?,
-        found_from: Vec::with_capacity(alloc, FEW)?,
+        looks: Vec::with_capacity(alloc, ROOM)?,
+        found_from: Vec::with_capacity(alloc, ROOM)?,
         table: PlaceTable::new(alloc),
     };
     walk.add(job, &lent, first_place(job), 0)?;

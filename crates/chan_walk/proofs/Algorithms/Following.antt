@@ -113,19 +113,6 @@ pub record IsGiven (s : List ℕ) (a : ℕ) (taken : List ℕ) (have here : ℕ)
   pub to : (m : ℕ) → 0 < m → (l : List ℕ) → IsChain s m here l → (k : List ℕ) × IsChain s (have + m) a k × (joined s k ≡ before ++ joined s l)
   pub from : (m : ℕ) → 0 < m → (k : List ℕ) → IsChain s (have + m) a k → (l : List ℕ) × IsChain s m here l
 
--- before any byte was taken
-pub given_none : (s : List ℕ) (a : ℕ) (x : List ℕ) → IsGiven s a x 0 a
-given_none s a x =
-    let none : (m : ℕ) → 0 + m ≡ m = λ m. omega arith in
-    record {
-      before = [];
-      count = refl;
-      noted = λ i h. absurd (omega arith);
-      some = λ h. absurd (omega arith);
-      to = λ m h l k. (l, subst (λ z. IsChain s z a l) (sym (none m)) k, refl);
-      from = λ m h k w. (k, subst (λ z. IsChain s z a k) (none m) w);
-    }
-
 -- the chain that begins at a gives n bytes, and there it ends
 pub record IsEnded (s : List ℕ) (a n : ℕ) (x : List ℕ) : Type 0 where
   pub front : IsFront s a n x

@@ -7,13 +7,16 @@ use Rattle.std.proofs.Math.Seq.{get_or-append_seam}
 use Rattle.std.proofs.lemmas.Bool.{cases_eq}
 use Rattle.std.proofs.lemmas.List.{get_or_read, get_or_append_left, get_or-set_other, get_or-set_same, length-set, length-take, take-append-le, take_at}
 use Rattle.std.proofs.lemmas.Nat.{div_below}
-use Rattle.std.proofs.lemmas.Option.{slice_get_within}
+use Rattle.std.proofs.lemmas.Option.{slice_get-get_or, slice_get_within}
 use Rattle.chan_walk.proofs.Algorithms.Looking.{number_of_places}
 use Rattle.chan_walk.proofs.Algorithms.Walking.{place_there}
 use Rattle.chan_walk.proofs.Theory.Lists.{at_has, front_at, last_at, pushed, same_at, taken_at}
 use Rattle.chan_walk.specs.declared.place_table.PlaceTable.{PlaceTable}
 use Rattle.chan_walk.specs.declared.place_table.TheConstants.{GOLDEN}
-use Rattle.chan_walk.specs.PlaceTable.{FindsPlaces, IsLastIn, list_of, ListsPlaces}
+use Rattle.std.specs.List.{AllWithin, HoldsAt}
+use Rattle.std.specs.Option.{MatchOption}
+use Rattle.std.specs.Prelude.{None, Option}
+use Rattle.chan_walk.specs.PlaceTable.{FindsPlaces, IsIndexOf, IsLastIn, list_of, ListsPlaces}
 
 pub list_within : (lists a : ℕ) → 0 < lists → list_of lists a < lists
 list_within lists a some =
@@ -163,6 +166,19 @@ none_left lists ps p l h = let w = at_has ps p h in l.others w.0 (omega arith) w
 -- the look of an index is at its place
 pub look_at : (ls : List Seen) (i : ℕ) (l : Seen) → i < length ls → l ≡ get_or ls i l → slice_get (places_of_looks ls) i ≡ Some l.place
 look_at ls i l low is = place_there ls i l (slice_get_read ls (length ls) i l refl low is)
+
+-- the first of the looks that is at a place
+pub index_of_first : (ls : List Seen) (p : Place) (r : Option ℕ)
+    → MatchOption r (AllWithin (λ (l : Seen). l.place ≡ p → ⊥) ls 0 (length ls))
+    (λ i. (i < length ls) × HoldsAt (λ (l : Seen). l.place ≡ p) ls i × AllWithin (λ (l : Seen). l.place ≡ p → ⊥) ls 0 i)
+    → IsIndexOf (places_of_looks ls) p r
+index_of_first [] p None none = λ h. h
+index_of_first (l ∷ ls) p None none = λ h.
+    let w = at_has (places_of_looks (l ∷ ls)) p h in
+    let low : w.0 < length (l ∷ ls) = omega (arith, w.1, number_of_places (l ∷ ls)) in
+    none w.0 l (omega arith) low (same_at (places_of_looks (l ∷ ls)) w.0 w.0 _ p (place_there (l ∷ ls) w.0 _ (slice_get-get_or (l ∷ ls) w.0 l low)) w.2 refl)
+index_of_first [] p (Some i) first = absurd (omega (arith, first.0))
+index_of_first (l ∷ ls) p (Some i) first = place_there (l ∷ ls) i _ (slice_get-get_or (l ∷ ls) i l first.0) ∙ ap Some (first.1 l)
 
 -- and so is the one before an index
 pub look_below : (lists : ℕ) (ls : List Seen) (p : Place) (end : ℕ) (l : Seen) → IsLeftBelow lists (places_of_looks ls) p end → 0 < end

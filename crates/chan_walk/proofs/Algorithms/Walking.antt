@@ -1,5 +1,5 @@
 -- A walk finds what is reachable, and nothing else.
-use Rattle.chan_walk.proofs.Names.{[], AddsPlace, ap, AreDistinct, AreLooks, AreReached, AreSuccessors, arith, cases_lt, first_place, Follows, Has, HasFault, HasFound, HasNoRoomFor, inl, inr, IsAmong, IsPath, IsReachable, IsWalked, Job, length, length-append, List, Next, None, Option, option_map, Place, place_of, places_of_looks, Reason, refl, rules, Seen, slice_get-map, Some, subst, suc, sym, zero, ℕ, ◌++◌, ◌+◌, ◌<◌, ◌↔◌, ◌∙◌, ◌∷◌, ◌≡◌, ◌≤◌, ◌⊎◌}
+use Rattle.chan_walk.proofs.Names.{[], AddsPlace, ap, AreDistinct, AreLooks, AreReached, AreSuccessors, arith, cases_lt, Follows, Has, HasFault, HasFound, HasNoRoomFor, inl, inr, IsAmong, IsPath, IsReachable, IsWalked, Job, length, length-append, List, Next, None, Option, option_map, Place, place_of, places_of_looks, Reason, refl, rules, Seen, slice_get-map, Some, subst, suc, sym, zero, ℕ, ◌++◌, ◌+◌, ◌<◌, ◌↔◌, ◌∙◌, ◌∷◌, ◌≡◌, ◌≤◌, ◌⊎◌}
 use Rattle.std.specs.List.{slice_get}
 use Rattle.chan_walk.specs.Places.{HasMoreThan}
 use Rattle.chan_walk.specs.Successor.{Successor}
@@ -159,20 +159,6 @@ walked_on j l n from ps qs rs fs gs hs i w h s a b = record {
         among q ((s.each q).1 (subst (λ t. Follows j t q) (sym is) f))
 
 -- ---- the whole walk
-
--- the first place alone
-only_first : (j : Job) (p : Place) → Has (first_place j ∷ []) p → IsReachable j p
-only_first j p h = search rules
-
-pub walked_first : (j : Job) (n : ℕ) → 0 < n → IsWalked j n (first_place j ∷ []) 0
-walked_first j n h = record {
-  few = omega arith;
-  within = omega arith;
-  distinct = ((λ m. m), tt);
-  begins = inl refl;
-  only = only_first j;
-  closed = λ k p q l. absurd (omega arith);
-}
 
 -- where the successors of all are found, each reachable place is
 pub all_found : (j : Job) (n : ℕ) (ps : List Place) (i : ℕ) → IsWalked j n ps i → length ps ≤ i → (p : Place) → IsReachable j p → Has ps p

@@ -1,4 +1,4 @@
-use Rattle.std.proofs.Common.{arith, refl, string_bytes, sym}
+use Rattle.std.proofs.Common.{refl, string_bytes, sym}
 use Rattle.std.proofs.lemmas.List.{append-nil}
 use Rattle.chan_deck.proofs.explanation.explanation_text.Goals as goal
 
@@ -6,12 +6,3 @@ pub returns-then-offences-le1 : goal.returns-then-offences-le1
 returns-then-offences-le1 c =
     let text = string_bytes c.in_ok-text.text in
     (text, _, rw c.verdict.ensures at c.in_ok-text.ensures, λ few. refl, sym (append-nil text))
-
-pub returns : goal.returns
-returns c = (
-  string_bytes c.in_ok-text.text,
-  c.as_str.result.now,
-  rw c.verdict.ensures at c.in_ok-text.ensures,
-  (λ few. absurd (omega (arith, few, rw c.offences-offences.ensures at c.if-offences-le1.false))),
-  c.in_ok-push_str.ensures.bytes,
-)

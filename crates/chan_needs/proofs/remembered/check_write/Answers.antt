@@ -1,7 +1,4 @@
-use Rattle.chan_needs.proofs.Names.{arith, IsLeastOrNone, KeepsNone, map, subst}
-use Rattle.std.proofs.lemmas.List.{get_or_default}
-use Rattle.std.proofs.lemmas.List.Elements.{AllWithin-more}
-use Rattle.chan_needs.specs.declared.layout.Row.{Row}
+use Rattle.chan_needs.proofs.Names.{arith, KeepsNone, map}
 use Rattle.chan_needs.proofs.Remembering.{writes_well}
 use Rattle.chan_needs.proofs.Rows.{all_rows, all_within, row_at}
 use Rattle.chan_needs.specs.Row.{in_row}
@@ -15,13 +12,6 @@ returns-in-Some-clause-keeper c =
       all_within (KeepsNone c.args.area) rows c.loop-i.i (omega arith) c.loop-i.invariant,
       c.in-Some.ensures,
     )
-
-pub loop-i-preserved : goal.loop-i-preserved
-loop-i-preserved c =
-    let rows = c.args.in_flight.now in
-    let none = subst (IsLeastOrNone _) c.in_default.is c.kept_in.ensures in
-    AllWithin-more (λ (r : Row). KeepsNone c.args.area (in_row r)) rows 0 c.loop-i.i c.loop-i.invariant
-    (λ d. subst (λ (r : Row). KeepsNone c.args.area (in_row r)) (get_or_default rows c.loop-i.i _ d c.loop-i-test.true) none)
 
 pub returns-clause-keeper : goal.returns-clause-keeper
 returns-clause-keeper c = all_rows (KeepsNone c.args.area) c.args.in_flight.now (λ k d l. c.loop-i.invariant k d (omega arith) (omega arith))

@@ -1,6 +1,5 @@
 use Rattle.std.proofs.Common.{◌≡◌, ◌++◌, add-one, inr, rules, string_bytes, suc}
 use Rattle.std.proofs.KnownBytes.{Appends-trans}
-use Rattle.std.proofs.lemmas.List.{take_all}
 use Rattle.std.specs.Io.KnownBytes.{Appends}
 use Rattle.ccw_core.proofs.Prefixes.{prefix_after}
 use Rattle.ccw_core.specs.Held.{bytes_held}
@@ -60,27 +59,4 @@ returns-in_default-line-clause-answer g c =
       starts_over o image _ _ _ held starts.ensures.value c.in-Ok-program_starts.ensures,
       c.loop-start.start-index,
       record { text = text; after = c.loop-start.left; lines = lines; written = app },
-    )
-
-pub returns-clause-answer : goal.returns-clause-answer
-returns-clause-answer g c =
-    let o = c.args.options.now in
-    let image = c.args.image.now in
-    let held : bytes_held c.unwrap-storage.result ≡ storage_with o.at image = search rules in
-    let starts = c.as_slice-start-items in
-    let (sound, (text, lines, app)) = c.loop-start.invariant in (
-      starts.result.now,
-      starts_over o image _ _ _ held starts.ensures.value c.in-Ok-program_starts.ensures,
-      record { text = text; after = c.loop-start.left; lines = rw (take_all _ _ c.loop-start-test.false) at lines; written = app },
-    )
-
-pub returns-clause-note : goal.returns-clause-note
-returns-clause-note g c =
-    let o = c.args.options.now in
-    let image = c.args.image.now in
-    let held : bytes_held c.unwrap-storage.result ≡ storage_with o.at image = search rules in
-    let starts = c.as_slice-start-items in (
-      starts.result.now,
-      starts_over o image _ _ _ held starts.ensures.value c.in-Ok-program_starts.ensures,
-      search rules,
     )

@@ -1,10 +1,7 @@
-use Rattle.std.proofs.Common.{◌∙◌, ◌≡◌, IfOk, ap, map, subst}
-use Rattle.chan_needs.specs.Listed.{listed, pair}
-use Rattle.chan_deck.specs.DeckValue.{Spells}
+use Rattle.std.proofs.Common.{◌∙◌, ◌≡◌, ap}
+use Rattle.chan_needs.specs.Listed.{listed}
 use Rattle.chan_deck.specs.Needs.{in_six_digits}
-use Rattle.chan_deck.specs.PartsValue.{value_of_parts}
-use Rattle.chan_run.specs.Output.{extents_for}
-use Rattle.chan_run.proofs.LeastLemmas.{fetch_fits, grants_needs, six_are_areas, store_fits}
+use Rattle.chan_run.proofs.LeastLemmas.{fetch_fits, six_are_areas, store_fits}
 use Rattle.chan_run.proofs.NeedLemmas.{needs_extents}
 use Rattle.chan_run.proofs.least_job.granting_text.Goals as goal
 
@@ -20,13 +17,3 @@ parts_text-requires-clause-addresses c =
     let fetch : c.deref-5.result.now ≡ in_six_digits n.fetch = c.deref-5.ensures.value ∙ c.in_ok-fetch.ensures ∙ ap in_six_digits c.deref-3.ensures.value in
     let store : c.deref-6.result.now ≡ in_six_digits n.store = c.deref-6.ensures.value ∙ c.in_ok-store.ensures ∙ ap in_six_digits c.deref-4.ensures.value in
     (c.requires.start, rw fetch (six_are_areas n.fetch (fetch_fits j n needs short)), rw store (six_are_areas n.store (store_fits j n needs short)))
-
-pub returns : goal.returns
-returns c =
-    let n = listed c.args.needs.now in
-    let runs = c.deref-2.ensures.value ∙ c.in_ok-runs.ensures.pairs ∙ ap (map pair) c.deref.ensures.value in
-    let extents = c.in_ok-extents.ensures ∙ ap extents_for runs in
-    let fetch : c.deref-5.result.now ≡ in_six_digits n.fetch = c.deref-5.ensures.value ∙ c.in_ok-fetch.ensures ∙ ap in_six_digits c.deref-3.ensures.value in
-    let store : c.deref-6.result.now ≡ in_six_digits n.store = c.deref-6.ensures.value ∙ c.in_ok-store.ensures ∙ ap in_six_digits c.deref-4.ensures.value in
-    subst (λ d. IfOk c.parts_text.result (λ text. Spells text.items d))
-    (grants_needs (value_of_parts c.args.parts) n _ _ _ extents fetch store) c.parts_text.ensures

@@ -1,15 +1,6 @@
-use Rattle.chan_walk.proofs.Names.{ap, arith, bytes_held, ccw, get_or, onward, refl, rules, subst, sym, ℕ, ◌+◌, ◌-◌, ◌<◌, ◌∙◌, ◌≡◌}
-use Rattle.chan_walk.proofs.Algorithms.Following.{IsEnded, IsGiven, completes, ended_short, ends_before, ends_here, given_none, goes_further}
+use Rattle.chan_walk.proofs.Names.{ap, arith, bytes_held, ccw, get_or, onward, subst, sym, ℕ, ◌+◌, ◌-◌, ◌<◌, ◌∙◌, ◌≡◌}
+use Rattle.chan_walk.proofs.Algorithms.Following.{IsEnded, IsGiven, completes, ended_short, ends_before, ends_here, goes_further}
 use Rattle.chan_walk.proofs.argument.front_of.Goals as goal
-
-pub loop-part-init : goal.loop-part-init
-loop-part-init c = record {
-  given = given_none (bytes_held c.args.storage.now) c.args.address _;
-  few = omega arith;
-  size = refl;
-  zeros = λ i le lt. search rules;
-  stands = c.requires;
-}
 
 pub loop-part-preserved : goal.loop-part-preserved
 loop-part-preserved c =

@@ -1,4 +1,4 @@
-use Rattle.chan_why.proofs.Names.{ap, Area, get_or, GuardAreas, Guards, IsArgumentByteOf, IsByteIn, IsFirstWhere, IsLeastOrNone, length, List, look_of, Place, places_of_looks, refl, Seen, subst, sym, whole_of, ◌<◌, ◌∙◌, ◌≡◌}
+use Rattle.chan_why.proofs.Names.{ap, Area, get_or, GuardAreas, Guards, IsArgumentByteOf, IsByteIn, IsFirstWhere, IsLeastOrNone, List, look_of, Place, places_of_looks, refl, Seen, subst, sym, whole_of, ◌∙◌, ◌≡◌}
 use Rattle.chan_why.proofs.Changing.{first_within, found_least, one_argument, one_taker, taken_at, taken_whole}
 use Rattle.chan_why.proofs.Indexing.{taker_found}
 use Rattle.chan_why.proofs.offence_evidence.changed_argument.Goals as goal
@@ -20,15 +20,6 @@ unwrap-requires c =
     c.args.range c.first_in.result c.unwrap-byte.result c.unwrap-byte.ensures c.first_in.ensures in
     one_taker j c.args.survey.now.looks c.args.survey.now.found_from s.found c.unwrap-byte.result c.taker.result least.0.argument
     (taker_found j c.args.survey.now.looks c.unwrap-byte.result c.args.finder.now.takers c.taker.result s.found.looks c.requires.takers c.taker.ensures)
-
-pub bounds-looks-unwrap : goal.bounds-looks-unwrap
-bounds-looks-unwrap c =
-    let j = c.requires.change.0 in
-    let ls = c.args.survey.now.looks in
-    let at = taker_found j ls c.unwrap-byte.result c.args.finder.now.takers c.taker.result c.requires.change.1.found.looks c.requires.takers c.taker.ensures in
-    let within = first_within (λ q. IsArgumentByteOf j q c.unwrap-byte.result) ls c.unwrap.result
-    (subst (IsFirstWhere (λ q. IsArgumentByteOf j q c.unwrap-byte.result) (places_of_looks ls)) c.unwrap.ensures at) in
-    subst (λ (xs : List Seen). c.unwrap.result < length xs) (sym c.looks.ensures) within
 
 pub returns : goal.returns
 returns c j s clear =

@@ -1,5 +1,4 @@
-use Rattle.chan_why.proofs.Names.{[], ap, arith, HasFound, IsLastStore, IsPathAt, IsStoredBefore, IsSurvey, Job, length, List, look_of, Place, place_at, places_of_looks, refl, reverse, Seen, slice_get, slice_index, Some, subst, sym, ◌++◌, ◌<◌, ◌∙◌, ◌∷◌, ◌≡◌}
-use Rattle.std.proofs.lemmas.List.{reverse-reverse}
+use Rattle.chan_why.proofs.Names.{[], ap, arith, HasFound, IsLastStore, IsPathAt, IsSurvey, Job, List, look_of, Place, place_at, places_of_looks, Seen, slice_get, slice_index, Some, subst, sym, ◌++◌, ◌∙◌, ◌∷◌, ◌≡◌}
 use Rattle.chan_why.proofs.Backward.{IsWayBack, as_read, back_end, back_next, from_earlier}
 use Rattle.chan_why.proofs.path.path_at.Goals as goal
 
@@ -44,26 +43,6 @@ loop-from-preserved c =
       );
     }
 
-pub loop-from-init : goal.loop-from-init
-loop-from-init c =
-    let ls = c.looks-looks.result.now in
-    let end = c.place-end.result in
-    let within : c.args.at < length ls = subst (λ (xs : List Seen). c.args.at < length xs) (sym c.looks-looks.ensures) c.requires.within in
-    let one = c.in_ok-push.ensures.items ∙ ap (λ z. z ++ end ∷ []) c.new-places.ensures.items in
-    let there = place_at ls c.args.at c.index-looks-at.result within c.index-looks-at.is ∙ ap Some (sym c.place-end.ensures) in
-    record {
-      found = c.requires.found;
-      within = within;
-      back = λ j f. record {
-        current = end;
-        front = [];
-        is = one;
-        there = there;
-        goes = λ rest best. record { last = end; before = rest; is = refl; best = best };
-      };
-      stored = ([], one, λ j f. refl);
-    }
-
 pub returns-clause-path : goal.returns-clause-path
 returns-clause-path c j h =
     let ls = c.looks-looks.result.now in
@@ -76,9 +55,3 @@ returns-clause-path c j h =
     (subst (λ z. IsWayBack j (places_of_looks ls) c.args.at z c.loop-from.places.items) zero (c.loop-from.invariant.back j h))
     in
     subst (λ (xs : List Seen). IsPathAt j (places_of_looks xs) c.args.at c.reverse.new.self.items) c.looks-looks.ensures path
-
-pub returns-clause-stored : goal.returns-clause-stored
-returns-clause-stored c j h =
-    let t = c.loop-from.invariant.stored in
-    let is = ap reverse c.reverse.ensures.items ∙ reverse-reverse c.loop-from.places.items ∙ t.1 in
-    subst (λ z. IsStoredBefore j z c.loop-from.stored_by) (sym is) (t.2 j h)

@@ -1,5 +1,4 @@
-use Rattle.chan_why.proofs.Names.{get_or, HasLikeOffence, IsFirstWhere, length, List, places_of_looks, Seen, subst, sym, ◌<◌, ◌≡◌}
-use Rattle.chan_why.proofs.Changing.{first_within}
+use Rattle.chan_why.proofs.Names.{get_or, HasLikeOffence, IsFirstWhere, List, places_of_looks, Seen, subst, ◌≡◌}
 use Rattle.chan_why.proofs.Explaining.{case_there, look_there, offending_there, some_found}
 use Rattle.chan_why.proofs.Indexing.{like_found}
 use Rattle.chan_why.proofs.witness.case_of.Goals as goal
@@ -10,15 +9,6 @@ unwrap-at-requires c =
     let is = c.requires.listed.1 in
     let first = like_found s.looks s.offences c.args.offence c.args.finder.now.offenders c.offender.result c.requires.finds.offenders c.offender.ensures in
     some_found c.requires.listed.0 s.looks s.found_from is.found s.offences is.offences c.args.offence c.requires.listed.2 c.offender.result first
-
-pub bounds-looks-at : goal.bounds-looks-at
-bounds-looks-at c =
-    let s = c.args.survey.now in
-    let o = c.args.offence in
-    let like = like_found s.looks s.offences o c.args.finder.now.offenders c.offender.result c.requires.finds.offenders c.offender.ensures in
-    let first = subst (IsFirstWhere (HasLikeOffence s.offences o) (places_of_looks s.looks)) c.unwrap-at.ensures like in
-    subst (λ (ls : List Seen). c.unwrap-at.result < length ls) (sym c.looks-looks.ensures)
-    (first_within (HasLikeOffence s.offences o) s.looks c.unwrap-at.result first)
 
 pub evidence_at-requires-clause-offends : goal.evidence_at-requires-clause-offends
 evidence_at-requires-clause-offends c =
@@ -35,14 +25,6 @@ evidence_at-requires-clause-offends c =
       look_there j s is o c.requires.listed.2 c.unwrap-at.result first l seen,
       offending_there j s is o c.requires.listed.2 c.unwrap-at.result first l seen,
     )
-
-pub returns-clause-within : goal.returns-clause-within
-returns-clause-within c =
-    let s = c.args.survey.now in
-    let o = c.args.offence in
-    let like = like_found s.looks s.offences o c.args.finder.now.offenders c.offender.result c.requires.finds.offenders c.offender.ensures in
-    first_within (HasLikeOffence s.offences o) s.looks c.unwrap-at.result
-    (subst (IsFirstWhere (HasLikeOffence s.offences o) (places_of_looks s.looks)) c.unwrap-at.ensures like)
 
 pub returns-clause-case : goal.returns-clause-case
 returns-clause-case c j is =

@@ -1,6 +1,5 @@
-use Rattle.chan_walk.proofs.Names.{ap, arith, length, places_of_looks, Some, subst, sym, ◌∙◌, ◌≡◌}
+use Rattle.chan_walk.proofs.Names.{ap, arith, length, places_of_looks, subst, sym, ◌∙◌, ◌≡◌}
 use Rattle.chan_walk.proofs.Algorithms.Looking.{number_of_places}
-use Rattle.chan_walk.proofs.Algorithms.Marks.{same_number}
 use Rattle.chan_walk.proofs.Algorithms.PlaceTable.{by_lists, IsLeftBelow, left_last, left_look, look_below, none_left}
 use Rattle.chan_walk.specs.PlaceTable.{list_of}
 use Rattle.chan_walk.specs.Places.{place_number}
@@ -14,13 +13,6 @@ loop-end-init c =
     let left = left_last c.args.self.now (places_of_looks ls) c.args.place c.list_of.result c.index.result.now lists
     (c.list_of.ensures.list ∙ ap (λ n. list_of n c.args.place.address) len) c.index.ensures in
     (left, omega (arith, left.within, number_of_places ls))
-
-pub returns-then-number-clause-found : goal.returns-then-number-clause-found
-returns-then-number-clause-found c =
-    let l = c.index-looks-index.result in
-    let there = look_below _ c.args.looks.now c.args.place c.loop-end.end l c.loop-end.invariant.0 c.loop-end-test.true c.index-looks-index.is in
-    there ∙ ap Some (same_number l.place c.args.place
-    (sym (c.number.ensures ∙ ap place_number c.place.ensures) ∙ c.if-number.true ∙ c.number-in-loop-end.ensures))
 
 pub loop-end-smaller : goal.loop-end-smaller
 loop-end-smaller c =
