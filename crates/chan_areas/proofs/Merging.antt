@@ -13,7 +13,7 @@ use Rattle.std.proofs.lemmas.List.Sorted.{list_any-IsPermutation}
 use Rattle.ccw_core.specs.declared.areas.Area.{Area}
 use Rattle.ccw_core.specs.Areas.{end_of, lies_in}
 use Rattle.ccw_core.proofs.Covering.{lies_in-nil}
-use Rattle.chan_areas.specs.Merged.{start_of, IsByteOf, EndsBelow, BeginAbove, IsMerged, AreExactly, HaveSameBytes, AreInOrder, IsTaken, IsJoined, IsOneRun, MergedIsUnique}
+use Rattle.chan_areas.specs.Merged.{start_of, IsByteOf, EndsBelow, BeginAbove, IsMerged, AreExactly, HaveSameBytes, AreInOrder, LeavesRun, IsJoined, IsOneRun, MergedIsUnique}
 
 -- ---- bytes of areas
 
@@ -259,8 +259,8 @@ run_is_done run area areas runs gap h = record {
     filled : IsEmptyRun runs → ⊥
     filled e = empty_run runs area.start e (h.bytes area.start ∙ lies_in-first area areas area.start (omega arith, omega (arith, gap)))
 
-abbrev Fits : Area → Type 0
-Fits = EndsBelow (2 ^ 32)
+abbrev EndsLow : Area → Type 0
+EndsLow = EndsBelow (2 ^ 32)
 
 -- the runs of all of them
 abbrev pub AreLeftOf : List Area → List Area → Type 0
@@ -293,7 +293,7 @@ runs_are xs sorted runs p h m =
 -- a closure that joins areas
 abbrev Joins : {S : Type 0} → (S → Area → Area → Bool → S → Area → Area → Type 0) → Type 0
 Joins {S} R = (s : S) (area run : Area) (b : Bool) (t : S) (kept r : Area) → R s area run b t kept r
-    → (kept ≡ area) × IsTaken run area b r
+    → (kept ≡ area) × LeavesRun run area b r
 
 module _ {S : Type 0} (R : S → Area → Area → Bool → S → Area → Area → Type 0) (goes : Joins R) where
   runs_from : (s : S) (run : Area) (xs ys : List Area) → BeginFrom run.start xs → All (EndsBelow (2 ^ 32)) (run ∷ xs)
@@ -307,26 +307,26 @@ module _ {S : Type 0} (R : S → Area → Area → Bool → S → Area → Area 
       let one = goes s x run h.0 h.1 h.2 h.3 h.4 in
       next h.0 one.1 h.5
       (λ r o l d. runs_from h.1 r xs ys o l d)
-      (λ zs d. runs_from h.1 x xs zs order.1 (All-tail Fits run (x ∷ xs) low) (subst (λ k. DedupsFrom R h.1 k xs zs) one.0 d))
+      (λ zs d. runs_from h.1 x xs zs order.1 (All-tail EndsLow run (x ∷ xs) low) (subst (λ k. DedupsFrom R h.1 k xs zs) one.0 d))
     where
       given : AreInOrder run x
-      given = (order.0, All-head Fits run (x ∷ xs) low, All-head Fits x xs (All-tail Fits run (x ∷ xs) low))
+      given = (order.0, All-head EndsLow run (x ∷ xs) low, All-head EndsLow x xs (All-tail EndsLow run (x ∷ xs) low))
 
-      next : (b : Bool) → IsTaken run x b h.3 → MatchBool b (DedupsFrom R h.1 h.3 xs ys) ((zs : List Area) × DedupsFrom R h.1 h.2 xs zs × (ys ≡ h.3 ∷ zs))
-          → ((r : Area) → BeginFrom r.start xs → All Fits (r ∷ xs) → DedupsFrom R h.1 r xs ys → AreRuns r.start (r ∷ xs) ys)
+      next : (b : Bool) → LeavesRun run x b h.3 → MatchBool b (DedupsFrom R h.1 h.3 xs ys) ((zs : List Area) × DedupsFrom R h.1 h.2 xs zs × (ys ≡ h.3 ∷ zs))
+          → ((r : Area) → BeginFrom r.start xs → All EndsLow (r ∷ xs) → DedupsFrom R h.1 r xs ys → AreRuns r.start (r ∷ xs) ys)
           → ((zs : List Area) → DedupsFrom R h.1 h.2 xs zs → AreRuns x.start (x ∷ xs) zs) → AreRuns run.start (run ∷ x ∷ xs) ys
       next true taken rest on done =
           let one = taken given in
           run_goes_on run x h.3 xs ys one
-          (on h.3 (begin_sooner h.3.start x.start xs one.order order.1) (All-cons Fits h.3 xs one.low (All-tail Fits x xs (All-tail Fits run (x ∷ xs) low))) rest)
+          (on h.3 (begin_sooner h.3.start x.start xs one.order order.1) (All-cons EndsLow h.3 xs one.low (All-tail EndsLow x xs (All-tail EndsLow run (x ∷ xs) low))) rest)
       next false gap rest on done =
           subst (AreRuns run.start (run ∷ x ∷ xs)) (sym (rest.2 ∙ ap (λ z. z ∷ rest.0) gap.0)) (run_is_done run x xs rest.0 (gap.1 given) (done rest.0 rest.1))
 
-pub runs_of : {S : Type 0} {R : S → Area → Area → Bool → S → Area → Area → Type 0} {s : S} {given : List Area} (xs ys : List Area)
-    → IsDeduped R s given ys → given ≡ xs → IsNonDecreasingBy start_of xs → All Fits xs → Joins R → AreLeftOf xs ys
-runs_of {R = R} {s = s} xs ys h e = go xs (subst (λ z. IsDeduped R s z ys) e h)
+pub runs_left : {S : Type 0} {R : S → Area → Area → Bool → S → Area → Area → Type 0} {s : S} {given : List Area} (xs ys : List Area)
+    → IsDeduped R s given ys → given ≡ xs → IsNonDecreasingBy start_of xs → All EndsLow xs → Joins R → AreLeftOf xs ys
+runs_left {R = R} {s = s} xs ys h e = go xs (subst (λ z. IsDeduped R s z ys) e h)
   where
-    go : (xs : List Area) → IsDeduped R s xs ys → IsNonDecreasingBy start_of xs → All Fits xs → Joins R → AreLeftOf xs ys
+    go : (xs : List Area) → IsDeduped R s xs ys → IsNonDecreasingBy start_of xs → All EndsLow xs → Joins R → AreLeftOf xs ys
     go [] h order low goes = (λ b. ap (λ z. lies_in z b) h.told, inl (subst IsMerged (sym h.told) tt))
     go (x ∷ xs) h order low goes =
         let runs = runs_from R goes s x xs ys (begin_from 0 (x ∷ xs) order (λ k d l. omega arith)).1 low h.told in

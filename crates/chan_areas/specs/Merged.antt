@@ -64,9 +64,9 @@ abbrev pub AreInOrder : Area → Area → Type 0
 AreInOrder run area = (run.start ≤ area.start) × EndsBelow (2 ^ 32) run × EndsBelow (2 ^ 32) area
 
 -- the run r that is left of a run where the next area went into it, or stayed
-abbrev pub IsTaken : Area → Area → Bool → Area → Type 0
-IsTaken run area true r = AreInOrder run area → IsOneRun run area r
-IsTaken run area false r = (r ≡ run) × (AreInOrder run area → IsJoined run area None)
+abbrev pub LeavesRun : Area → Area → Bool → Area → Type 0
+LeavesRun run area true r = AreInOrder run area → IsOneRun run area r
+LeavesRun run area false r = (r ≡ run) × (AreInOrder run area → IsJoined run area None)
 
 -- the first area of a merged list that ends above n: all that it says of the bytes from n on, up to
 -- the one after the area

@@ -8,7 +8,7 @@ ghost use Rattle.ccw_core.specs.Areas.{IsGap, lies_in};
 ghost use Rattle.ccw_core.specs.declared.areas.Area.{Area};
 ghost use Rattle.chan_areas.specs.Merged.{AreExactly, EndsBelow, HaveSameBytes, IsByteIn};
 ghost use Rattle.chan_areas.specs.Merged.{IsByteOf, IsJoined, IsLeastOrNone, IsMerged};
-ghost use Rattle.chan_areas.specs.Merged.{AreInOrder, IsTaken, IsNextArea, Meets, MergedIsUnique};
+ghost use Rattle.chan_areas.specs.Merged.{AreInOrder, LeavesRun, IsNextArea, Meets, MergedIsUnique};
 
 use crate::clip::clip;
 use ccw_core::Area;
@@ -54,7 +54,7 @@ impl Merged {
         areas.dedup_by(
             |area: &mut Area, run: &mut Area| -> bool
                 ensures { (area.exit.now ≡ area.entry.now)
-                    × IsTaken run.entry.now area.entry.now result run.exit.now }
+                    × LeavesRun run.entry.now area.entry.now result run.exit.now }
             {
                 match join(*run, *area) {
                     Some(joined) => {

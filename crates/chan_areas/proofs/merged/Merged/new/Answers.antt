@@ -3,7 +3,7 @@ use Rattle.std.proofs.lemmas.List.Sorted.{IsNonDecreasingBy-from_sort_by_key, Al
 use Rattle.ccw_core.specs.declared.areas.Area.{Area}
 use Rattle.ccw_core.specs.Areas.{lies_in}
 use Rattle.chan_areas.specs.Merged.{start_of, AreExactly, EndsBelow}
-use Rattle.chan_areas.proofs.Merging.{all_left, AreLeftOf, exactly_low, none_left, refilled, runs_are, runs_of}
+use Rattle.chan_areas.proofs.Merging.{all_left, AreLeftOf, exactly_low, none_left, refilled, runs_are, runs_left}
 use Rattle.chan_areas.proofs.merged.Merged.new.Goals as goal
 use Rattle.chan_areas.proofs.merged.Merged.new.Goals.{Joined-first, in-Some+then-run-eq0, in-Some+else-run-eq0, in_default}
 
@@ -14,7 +14,7 @@ exact c =
     let moved = subst (λ xs. IsPermutation xs sorted) c.as_mut_slice.ensures.value c.sort_unstable_by_key.ensures.permutation in
     let left =
     subst (AreLeftOf sorted) (sym c.as_slice.ensures)
-    (runs_of sorted c.dedup_by.new.self.items c.dedup_by.ensures.filtered
+    (runs_left sorted c.dedup_by.new.self.items c.dedup_by.ensures.filtered
     (refilled c.args.areas.items sorted (c.sort_unstable_by_key.ensures.len ∙ ap length c.as_mut_slice.ensures.value))
     (IsNonDecreasingBy-from_sort_by_key start_of _ c.sort_unstable_by_key.ensures.sorted (λ a r q k. search rules))
     (All-permutation (EndsBelow (2 ^ 32)) c.args.areas.items sorted moved c.requires)
