@@ -211,8 +211,11 @@ BeginFrom n (a ∷ rest) = (n ≤ a.start) × BeginFrom a.start rest
 begin_from : (n : ℕ) (xs : List Area) → IsNonDecreasingBy start_of xs
     → ((k : ℕ) (d : Area) → k < length xs → n ≤ (get_or xs k d).start) → BeginFrom n xs
 begin_from n [] s l = tt
-begin_from n (x ∷ xs) s l =
-    (l 0 x (omega arith), begin_from x.start xs (λ i j d le lt. s (suc i) (suc j) d (omega arith) (omega arith)) (λ k d lt. s 0 (suc k) d (omega arith) (omega arith)))
+begin_from n (x ∷ xs) s l = (
+  l 0 x (omega arith),
+  begin_from x.start xs (λ i j d le lt. s (suc i) (suc j) d (omega arith) (omega arith))
+      (λ k d lt. s 0 (suc k) d (omega arith) (omega arith)),
+)
 
 begin_sooner : (m n : ℕ) (xs : List Area) → m ≤ n → BeginFrom n xs → BeginFrom m xs
 begin_sooner m n [] l h = tt
@@ -318,7 +321,8 @@ module _ {S : Type 0} (R : S → Area → Area → Bool → S → Area → Area 
       next true taken rest on done =
           let one = taken given in
           run_goes_on run x h.3 xs ys one
-          (on h.3 (begin_sooner h.3.start x.start xs one.order order.1) (All-cons EndsLow h.3 xs one.low (All-tail EndsLow x xs (All-tail EndsLow run (x ∷ xs) low))) rest)
+          (on h.3 (begin_sooner h.3.start x.start xs one.order order.1)
+          (All-cons EndsLow h.3 xs one.low (All-tail EndsLow x xs (All-tail EndsLow run (x ∷ xs) low))) rest)
       next false gap rest on done =
           subst (AreRuns run.start (run ∷ x ∷ xs)) (sym (rest.2 ∙ ap (λ z. z ∷ rest.0) gap.0)) (run_is_done run x xs rest.0 (gap.1 given) (done rest.0 rest.1))
 

@@ -123,10 +123,13 @@ merged_first xs = record { merged = tt; before = λ k d l. absurd (omega arith);
 pub merged_next : (xs : List Area) (i n m : ℕ) → i < length xs → 0 < (get_or xs i nowhere).len → n ≤ (get_or xs i nowhere).start
     → m ≡ end_of (get_or xs i nowhere) + 1 → AreMergedBefore xs i n → AreMergedBefore xs (i + 1) m
 merged_next xs i n m l filled begun e h = record {
-  merged = subst IsMerged (sym (take_more xs i nowhere l)) (merged_push (take i xs) (get_or xs i nowhere) h.merged (λ k d b. let f = h.before k d b in omega arith) filled);
+  merged =
+      subst IsMerged (sym (take_more xs i nowhere l))
+      (merged_push (take i xs) (get_or xs i nowhere) h.merged (λ k d b. let f = h.before k d b in omega arith) filled);
   before =
       subst (All (EndsBelow m)) (sym (take_more xs i nowhere l))
-      (All-append (EndsBelow m) (take i xs) (get_or xs i nowhere ∷ []) (λ k d b. let f = h.before k d b in omega arith) (All-cons (EndsBelow m) (get_or xs i nowhere) [] (omega arith) (All-nil (EndsBelow m))));
+      (All-append (EndsBelow m) (take i xs) (get_or xs i nowhere ∷ []) (λ k d b. let f = h.before k d b in omega arith)
+      (All-cons (EndsBelow m) (get_or xs i nowhere) [] (omega arith) (All-nil (EndsBelow m))));
   begins = λ all k. let f = merged_order xs i (i + 1) nowhere all (omega arith) k in omega arith;
 }
 

@@ -1,6 +1,6 @@
 -- Places found by their addresses: one more is found too, and from each place of a list the one before it.
 use Rattle.chan_walk.proofs.Names.{[], ap, arith, cases_lt, get_or, Has, inl, inr, length, length-append, List, Place, place_number, places_of_looks, refl, Seen, slice_get, slice_get_read, slice_index, Some, subst, suc, sym, take, zero, ℕ, ◌*◌, ◌++◌, ◌+◌, ◌-◌, ◌%◌, ◌<◌, ◌∙◌, ◌∷◌, ◌≡◌, ◌≤◌, ◌⊎◌}
-use Rattle.std.specs.Prelude.{◌/◌, ◌^◌}
+use Rattle.std.specs.Prelude.{None, Option, ◌/◌, ◌^◌}
 use Rattle.std.proofs.Common.{set}
 use Rattle.std.proofs.Math.Nat.{mod-lt, mul-lt-mul_of_pos_right}
 use Rattle.std.proofs.Math.Seq.{get_or-append_seam}
@@ -15,7 +15,6 @@ use Rattle.chan_walk.specs.declared.place_table.PlaceTable.{PlaceTable}
 use Rattle.chan_walk.specs.declared.place_table.TheConstants.{GOLDEN}
 use Rattle.std.specs.List.{AllWithin, HoldsAt}
 use Rattle.std.specs.Option.{MatchOption}
-use Rattle.std.specs.Prelude.{None, Option}
 use Rattle.chan_walk.specs.PlaceTable.{FindsPlaces, IsIndexOf, IsLastIn, list_of, ListsPlaces}
 
 pub list_within : (lists a : ℕ) → 0 < lists → list_of lists a < lists

@@ -8,6 +8,7 @@ pub returns : goal.returns
 returns c =
     let p = c.args.place in
     index_of_first c.args.looks.now p c.position.result
-    (IsFirst-from_position _ _ c.position.result (λ (l : Seen). l.place ≡ p) (λ (l : Seen). l.place ≡ p → ⊥) c.position.ensures.ran (YieldsList-from_slice c.args.looks.now cc)
+    (IsFirst-from_position _ _ c.position.result (λ (l : Seen). l.place ≡ p) (λ (l : Seen). l.place ≡ p → ⊥)
+    c.position.ensures.ran (YieldsList-from_slice c.args.looks.now cc)
     (λ x q k. let is = k.met in search (rules, same_number))
     (λ x q k. let is = k.met in search (rules, same_number)))

@@ -31,7 +31,8 @@ exact c =
       | in-Some+else-run-eq0 w ↦
           subst P (c.as_slice.ensures ∙ sym (ap (λ a. a.items) w.areas-is)) (kept w.in-Some.run'.now (λ l. (w.in-Some.ensures.item.1, omega arith)))
       | in_default w ↦
-          subst P (c.as_slice.ensures ∙ sym (ap (λ a. a.items) w.areas-is)) (kept (record { start = 0; len = 0 }) (λ l. absurd (omega (arith, w.in_default.ensures.item.3))))
+          subst P (c.as_slice.ensures ∙ sym (ap (λ a. a.items) w.areas-is))
+          (kept (record { start = 0; len = 0 }) (λ l. absurd (omega (arith, w.in_default.ensures.item.3))))
     ]
 
 pub invariant_of-result : goal.invariant_of-result
