@@ -12,7 +12,7 @@ ghost use Rattle.chan_why.specs.Notes.{AddsAddress, AreAddressesOf, IsSeenWith, 
 ghost use Rattle.chan_walk.specs.declared.job.Job.{Job};
 
 use ccw_core::{Area, Ccw, CcwFlags};
-use chan_areas::{Merged, end_of};
+use chan_areas::end_of;
 use chan_walk::{Direction, Guard, Job, Look, Survey, data_moved, guarded_areas};
 use ckd_core::Kind;
 use std::alloc::{AllocError, Global};
@@ -56,13 +56,11 @@ pub struct Notes {
 /// binary search.
 pub fn notes_from(alloc: Global, job: &Job, survey: &Survey) -> Result<Notes, AllocError> {
     let looks = survey.looks();
-    let fetched = data_moved(alloc, looks, Direction::Fetch)?;
-    let stored = data_moved(alloc, looks, Direction::Store)?;
     Ok(Notes {
         fetch_past_storage: past_storage(alloc, job, job.fetch)?,
         store_past_storage: past_storage(alloc, job, job.store)?,
-        unused_fetch: unused(alloc, job.fetch, &fetched)?,
-        unused_store: unused(alloc, job.store, &stored)?,
+        unused_fetch: unused(alloc, looks, Direction::Fetch, job.fetch)?,
+        unused_store: unused(alloc, looks, Direction::Store, job.store)?,
         interrupting: interrupting(alloc, looks)?,
         ending: ending(alloc, looks)?,
         machine_stores: machine_stores(alloc, survey.guard())?,
@@ -75,18 +73,24 @@ fn past_storage(alloc: Global, job: &Job, areas: &[Area]) -> Result<Vec<Area>, A
     let length = u64::from(job.storage.len());
     let mut past = Vec::new(alloc);
     for area in areas {
-        if u64::from(area.start) + u64::from(area.len) > length {
+        if end_of(area) > length {
             past.push(*area)?;
         }
     }
     Ok(past)
 }
 
-/// Those of some areas that have no byte of a merged list.
-fn unused(alloc: Global, areas: &[Area], used: &Merged) -> Result<Vec<Area>, AllocError> {
+/// Those of some areas of which no reachable CCW moves a byte in this direction.
+fn unused(
+    alloc: Global,
+    looks: &[Look],
+    direction: Direction,
+    areas: &[Area],
+) -> Result<Vec<Area>, AllocError> {
+    let moved = data_moved(alloc, looks, direction)?;
     let mut unused = Vec::new(alloc);
     for area in areas {
-        if !used.meets(area.start, area.len) {
+        if !moved.meets(area.start, area.len) {
             unused.push(*area)?;
         }
     }

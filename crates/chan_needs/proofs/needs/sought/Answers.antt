@@ -1,7 +1,8 @@
-use Rattle.chan_needs.proofs.Names.{arith, HoldBytes, List, look_of, Place, places_next, places_of_looks, rules, SeeksCylinder, subst, sym, take, ◌+◌, ◌^◌}
+use Rattle.chan_needs.proofs.Names.{arith, HoldBytes, List, look_of, Place, places_next, places_of_looks, places_taken, rules, SeeksCylinder, subst, sym, take, ◌+◌, ◌^◌}
 use Rattle.chan_needs.proofs.Demanding.{clear_at}
-use Rattle.chan_walk.proofs.Algorithms.Guarding.{hold_more, hold_none, low_none}
+use Rattle.chan_walk.proofs.Algorithms.Guarding.{hold_more, hold_none, hold_same, low_none}
 use Rattle.chan_areas.proofs.Merging.{exactly_low}
+use Rattle.chan_needs.proofs.Seeking.{sought_all}
 use Rattle.chan_needs.proofs.needs.sought.Goals as goal
 
 pub loop-look-init : goal.loop-look-init
@@ -28,3 +29,13 @@ new-requires c k d l = let e = c.loop-look.invariant.low k d l in omega arith
 
 pub returns-clause-low : goal.returns-clause-low
 returns-clause-low c = exactly_low (2 ^ 16 + 1) c.loop-look.cylinders.items c.new.result c.new.ensures c.loop-look.invariant.low
+
+pub returns-clause-cylinders : goal.returns-clause-cylinders
+returns-clause-cylinders c j are =
+    let ls = c.args.looks.now in
+    record {
+      merged = c.new.ensures.merged;
+      bytes = sought_all j (places_of_looks ls) c.new.result are.reached
+          (hold_same (SeeksCylinder j) _ (places_of_looks ls) c.loop-look.cylinders.items c.new.result
+          (places_taken ls c.loop-look.look-index (omega arith)) (c.loop-look.invariant.bytes j are) c.new.ensures);
+    }
