@@ -138,7 +138,9 @@ impl PlaceTable {
     }
 }
 
-/// The index of a place among those looked at, if it is one of them. It is compared with each.
+/// The index of a place among those looked at, if it is one of them. It is compared with each. It
+/// isn't inlined, because most places of a long walk are found by lists.
+#[inline(never)]
 fn index_among(looks: &[Look], place: Place) -> Option<usize>
     ensures { IsIndexOf (places_of_looks looks.now) place result }
 {
