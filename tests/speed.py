@@ -129,27 +129,27 @@ LONG_WORDS = [
 
 # the most times the instructions of bench/limit.c, and the most of calls that it doesn't have
 RATIOS = {
-    "verify places-65536": 3.62,
-    "verify chain-65536": 3.69,
-    "verify comb-65536": 4.40,
-    "verify scattered-65536": 5.62,
-    "verify areas-apart-65536": 2.84,
+    "verify places-65536": 3.60,
+    "verify chain-65536": 3.66,
+    "verify comb-65536": 4.34,
+    "verify scattered-65536": 5.56,
+    "verify areas-apart-65536": 2.83,
     "verify extents": 3.09,
     "verify full-storage": 3.56,
-    "list places-65536": 2.95,
-    "list chain-65536": 2.73,
-    "list comb-65536": 3.73,
-    "list scattered-65536": 4.16,
+    "list places-65536": 2.94,
+    "list chain-65536": 2.71,
+    "list comb-65536": 3.70,
+    "list scattered-65536": 4.14,
     "find in 16 MiB of zeros": 11.65,
     "find in 16 MiB of noise": 12.56,
     "chanv_verify, 1 place": 3.80,
     "chanv_verify, 8 places": 3.48,
-    "chanv_verify, 64 places": 3.65,
+    "chanv_verify, 64 places": 3.46,
 }
 CALLS = {
     "chanv_take_in, 1 place": 11_500,
     "chanv_take_in, 8 places": 29_200,
-    "chanv_take_in, 64 places": 181_300,
+    "chanv_take_in, 64 places": 175_900,
     "chanv_check_start, 8 places": 122_500,
     "chanv_check_write, 8 places": 63_500,
 }
