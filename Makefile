@@ -43,15 +43,15 @@ libraries: can_prove $(LIBRARIES)
 $(LIBRARIES):
 	cd crates/$@ && rt lib --jobs $(JOBS)
 
-# Each is built after those that it stands on. Over ckd_core, chan_args and chan_find, which are small,
-# more jobs would read the same libraries once more each.
+# Each is built after those that it stands on. Over a small crate, and over chanv itself, more jobs
+# would read the same libraries once more each.
 chan_areas: ccw_core
 chan_walk: chan_areas ckd_core
 chan_needs chan_why chan_find: chan_walk
 chan_args: ccw_core ckd_core
 chan_deck: chan_needs chan_why
 chan_run: chan_args chan_find chan_deck
-ckd_core chan_args chan_find: private JOBS = 1
+ccw_core ckd_core chan_areas chan_args chan_find run: private JOBS = 1
 
 # Explains the verdict on a deck, with nothing proved: it compiles the sources as they are. The status
 # of a *no* is 1, and so is that of `rt` if nothing compiles, so that the verdict has to be there.
