@@ -43,8 +43,8 @@ libraries: can_prove $(LIBRARIES)
 $(LIBRARIES):
 	cd crates/$@ && rt lib --jobs $(JOBS)
 
-# Each is built after those that it stands on. Over a small crate, and over chanv itself, more jobs
-# would read the same libraries once more each.
+# Each is built after those that it stands on. In a small crate, such as chanv itself, more jobs would
+# read the same libraries once more each.
 chan_areas: ccw_core
 chan_walk: chan_areas ckd_core
 chan_needs chan_why chan_find: chan_walk
